@@ -1,0 +1,16 @@
+pub mod Ring
+pub mod SumLaws
+pub mod BladeLaws
+pub mod CountLaws
+pub mod SignLaws
+pub mod Sigma
+pub mod MetricLaws
+pub mod RelationsLaws
+pub mod RelationsModel
+pub mod PlacedLaws
+pub mod AlgebraLaws
+pub mod Twisted
+pub mod ProductLaws
+pub mod Counting
+pub mod PairsLaws
+pub mod Examples

@@ -1,0 +1,9 @@
+pub mod Blade
+pub mod Sign
+pub mod Sum
+pub mod Metric
+pub mod Relations
+pub mod Placed
+pub mod Algebra
+pub mod Product
+pub mod Pairs
