@@ -1,0 +1,11 @@
+mod Examples
+pub mod RoundLaws
+pub mod SignedLaws
+pub mod ValueLaws
+pub mod FitsLaws
+pub mod OperationLaws
+pub mod TermsLaws
+pub mod SizedLaws
+pub mod SnapLaws
+pub mod SnapBitsLaws
+pub mod DemandLaws

@@ -1,0 +1,1 @@
+// Mathematics alone: the definitions are in specs/, the laws in proofs/.
