@@ -1,0 +1,496 @@
+-- What building makes: numbers in their places, the masks of one parity, and the packings. Assumes nothing.
+use mathlib.Core.Path.{_≡_, refl, sym, ap, _∙_}
+use mathlib.Core.Bool.{Bool, true, false, cond}
+use mathlib.Core.List.{List, [], _∷_, _++_}
+use Prim.Native.Nat.{ℕ, zero, suc, _+_, _-_, _*_, _/_, _%_, _^_, _≤_, _<_}
+use native.Mathlib.Nat.{pow-suc, not-suc-le-zero}
+use native.Mathlib.Decide.{ℕ-discrete}
+use native.Mathlib.Numerals.{add-one}
+use native.Mathlib.Omega.{arith}
+use lib.Count.{ones}
+use lib.Dec.{eqb, ltb}
+use lib.Ieee.{Float, nan}
+use lib.ListN.{length, getD, drop, replicate, length-append, length-replicate, getD-replicate, List·getD-append}
+use lib.Pow.{pow-pos}
+use lib.Seq.{drop-cons}
+use borrow.Author.Tests.{eq-eqb, ne-eqb, eqb-true, eqb-false, lt-ltb, le-ltb, ltb-true, ltb-false}
+use Rattle.masks.specs.declared.flavor.Flavor.{Flavor}
+use Rattle.masks.specs.declared.flavor.Flavor.the-variants.{Vanilla, Projective, Cl}
+use Rattle.masks.specs.declared.build.Packing.{Packing}
+use Rattle.masks.specs.declared.build.Packing.the-variants.{Full, Half, Grade, Nothing}
+use Rattle.masks.specs.Order.{grade, below, order, size, start}
+use Rattle.masks.specs.Outcome.{refusal, tooMany, noRoom, value, refusedValue, shapeOf}
+use Rattle.masks.specs.Flavors.{addedDims}
+use Rattle.masks.specs.Shapes.{nought}
+use Rattle.masks.specs.Build.{padded, atGrade, builtRefusal, vector, n1Blades, scalar, pseudoscalar, firstGrade, sideStart, sideEnd, packing, unpacked, ofParity, spread, packed, bladesOf}
+use Rattle.masks.specs.Unpack.{choose}
+use Rattle.masks.proofs.ListLaws.{getD-past}
+use Rattle.masks.proofs.OrderLaws.{length-grade, length-order, grade-at, size-zero, start-all, size-above, part-fits}
+use Rattle.masks.proofs.RefusalLaws.{past, refused-first, refused-later, unless-done}
+
+-- ---- numbers from a place on
+
+module _ (first : ℕ) (v : List Float) (n : ℕ) where
+  -- what stands before the places past the numbers
+  held : length (replicate first nought ++ v) ≡ first + length v
+  held = simp (length-append, length-replicate)
+
+  pub length-padded : first + length v ≤ n → length (padded first v n) ≡ n
+  unfolding padded
+  length-padded h = simp (length-append, length-replicate) (omega arith)
+
+  pub padded-before : (k : ℕ) → k < first → getD (padded first v n) k nan ≡ nought
+  unfolding padded
+  padded-before k l =
+      List·getD-append (replicate first nought ++ v) _ nan k (omega (arith, held))
+      ∙ List·getD-append (replicate first nought) v nan k (omega (arith, length-replicate first nought))
+      ∙ getD-replicate first k nought nan l
+
+  pub padded-at : (k i : ℕ) → first + i ≡ k → i < length v → getD (padded first v n) k nan ≡ getD v i nan
+  unfolding padded
+  padded-at k i e l =
+      List·getD-append (replicate first nought ++ v) _ nan k (omega (arith, held))
+      ∙ rw (← e) (getD-past (replicate first nought) v first i nan (length-replicate first nought))
+
+  pub padded-past : (k : ℕ) → first + length v ≤ k → k < n → getD (padded first v n) k nan ≡ nought
+  unfolding padded
+  padded-past k h l =
+      let j : ℕ = k - (first + length v) in
+      let e : (first + length v) + j ≡ k = omega arith in
+      rw (← e)
+      (getD-past (replicate first nought ++ v) _ (first + length v) j nan held
+      ∙ getD-replicate (n - (first + length v)) j nought nan (omega arith))
+
+-- ---- the sizes of the outer grades
+
+pub lt-blades : (d : ℕ) → d < 2 ^ d
+lt-blades zero = omega arith
+lt-blades (suc d) = omega (arith, lt-blades d, pow-suc 2 d)
+
+pub start-one : (d : ℕ) → start d 1 ≡ 1
+unfolding start
+start-one d = omega (arith, size-zero d)
+
+pub size-one : (d : ℕ) → size d 1 ≡ d
+unfolding size
+size-one zero = refl
+size-one (suc d) = omega (arith, size-zero d, size-one d)
+
+pub size-last : (d : ℕ) → size d d ≡ 1
+unfolding size
+size-last zero = refl
+size-last (suc d) = omega (arith, size-last d, size-above d (suc d) (omega arith))
+
+before-last : (d : ℕ) → size (suc d) d ≡ suc d
+unfolding size
+before-last zero = refl
+before-last (suc d) = omega (arith, before-last d, size-last (suc d))
+
+pub size-before-last : (d : ℕ) → 0 < d → size d (d - 1) ≡ d
+size-before-last zero h = absurd (not-suc-le-zero h)
+size-before-last (suc d) h = let e : suc d - 1 ≡ d = omega arith in rw e (before-last d)
+
+pub grade-fits : (d g n : ℕ) → g ≤ d → size d g ≡ n → start d g + n ≤ 2 ^ d
+grade-fits d g n h e = omega (arith, part-fits d g h)
+
+pub vector-fits : (d : ℕ) → start d 1 + d ≤ 2 ^ d
+vector-fits d = omega (arith, start-one d, lt-blades d)
+
+-- a value whose numbers stand at one grade has 2 ^ d coefficients
+pub length-grade-set : (d g : ℕ) (v : List Float) → start d g + length v ≤ 2 ^ d → length (atGrade d g v) ≡ 2 ^ d
+unfolding atGrade
+length-grade-set d g v h = length-padded (start d g) v (2 ^ d) h
+
+-- ---- the masks of one parity
+
+module _ (odd : ℕ) where
+  pub choose-has : (m : ℕ) (ms : List ℕ) → ones m % 2 ≡ odd → choose odd (m ∷ ms) ≡ m ∷ choose odd ms
+  unfolding choose
+  choose-has m ms e = rw (eq-eqb _ _ e)
+
+  pub choose-lacks : (m : ℕ) (ms : List ℕ) → (ones m % 2 ≡ odd → ⊥) → choose odd (m ∷ ms) ≡ choose odd ms
+  unfolding choose
+  choose-lacks m ms e = rw (ne-eqb _ _ e)
+
+  pub choose-le : (ms : List ℕ) → length (choose odd ms) ≤ length ms
+  unfolding choose
+  choose-le [] = omega arith
+  choose-le (m ∷ ms) = go (ofParity odd m) (choose-le ms)
+    where
+      go : (b : Bool) → length (choose odd ms) ≤ length ms → length (cond b (m ∷ choose odd ms) (choose odd ms)) ≤ suc (length ms)
+      go true h = omega arith
+      go false h = omega arith
+
+  pub choose-append : (xs ys : List ℕ) → choose odd (xs ++ ys) ≡ choose odd xs ++ choose odd ys
+  unfolding choose
+  choose-append [] ys = refl
+  choose-append (m ∷ xs) ys = go (ofParity odd m) (choose-append xs ys)
+    where
+      go : (b : Bool) → choose odd (xs ++ ys) ≡ choose odd xs ++ choose odd ys → cond b (m ∷ choose odd (xs ++ ys)) (choose odd (xs ++ ys)) ≡ cond b (m ∷ choose odd xs) (choose odd xs) ++ choose odd ys
+      go true h = ap (λ l. m ∷ l) h
+      go false h = h
+
+  -- the mask at place i is the next one
+  module _ (ms : List ℕ) (i : ℕ) (l : i < length ms) where
+    rest : drop i ms ≡ getD ms i 0 ∷ drop (i + 1) ms
+    rest = rw add-one (drop-cons ms i 0 l)
+
+    pub choose-next : ones (getD ms i 0) % 2 ≡ odd → choose odd (drop i ms) ≡ getD ms i 0 ∷ choose odd (drop (i + 1) ms)
+    choose-next e = rw rest (choose-has (getD ms i 0) (drop (i + 1) ms) e)
+
+    pub choose-skip : (ones (getD ms i 0) % 2 ≡ odd → ⊥) → choose odd (drop i ms) ≡ choose odd (drop (i + 1) ms)
+    choose-skip e = rw rest (choose-lacks (getD ms i 0) (drop (i + 1) ms) e)
+
+-- the masks of a list, where each has g one bits, and g of one parity or not
+abbrev AllOf : ℕ → List ℕ → Type 0
+AllOf g ms = (k : ℕ) → k < length ms → ones (getD ms k 0) ≡ g
+
+module _ (odd g : ℕ) where
+  choose-all : (ms : List ℕ) → g % 2 ≡ odd → AllOf g ms → choose odd ms ≡ ms
+  unfolding choose
+  choose-all [] e h = refl
+  choose-all (m ∷ ms) e h =
+      choose-has odd m ms (ap (λ x. x % 2) (h 0 (omega arith)) ∙ e) ∙ ap (λ l. m ∷ l) (choose-all ms e (λ k l. h (suc k) (omega arith)))
+
+  choose-none : (ms : List ℕ) → (g % 2 ≡ odd → ⊥) → AllOf g ms → choose odd ms ≡ []
+  unfolding choose
+  choose-none [] e h = refl
+  choose-none (m ∷ ms) e h =
+      choose-lacks odd m ms (λ q. e (sym (ap (λ x. x % 2) (h 0 (omega arith))) ∙ q)) ∙ choose-none ms e (λ k l. h (suc k) (omega arith))
+
+-- how many masks of one parity stand in the grades below g
+counted : ℕ → ℕ → ℕ → ℕ
+counted odd d g = length (choose odd (below d g))
+
+module _ (odd d g : ℕ) where
+  all-grade : AllOf g (grade d g)
+  all-grade k l = grade-at d g k (omega (arith, length-grade d g)) .counted
+
+  counted-has : g % 2 ≡ odd → counted odd d (suc g) ≡ counted odd d g + size d g
+  unfolding counted below
+  counted-has e =
+      simp (choose-append, choose-all odd g (grade d g) e all-grade, length-append, length-grade)
+
+  counted-lacks : (g % 2 ≡ odd → ⊥) → counted odd d (suc g) ≡ counted odd d g
+  unfolding counted below
+  counted-lacks e =
+      simp (choose-append, choose-none odd g (grade d g) e all-grade, length-append) (omega arith)
+
+counted-zero : (odd d : ℕ) → counted odd d 0 ≡ 0
+unfolding counted below choose
+counted-zero odd d = refl
+
+-- a grade of d + 1 dimensions is as large as two grades of d dimensions that follow one another
+module _ (odd d : ℕ) (o : odd ≤ 1) where
+  counted-step : (g : ℕ) → ((g % 2 ≡ odd → counted odd (suc d) (suc g) ≡ start d (suc g)) × ((g % 2 ≡ odd → ⊥) → counted odd (suc d) (suc g) ≡ start d g))
+  unfolding start size
+  counted-step zero =
+      (λ e. omega (arith, counted-has odd (suc d) 0 e, counted-zero odd (suc d)), λ e. counted-lacks odd (suc d) 0 e ∙ counted-zero odd (suc d))
+  counted-step (suc g) =
+      (λ e. omega (arith, counted-has odd (suc d) (suc g) e, counted-step g .1 (omega arith)), λ e. omega (arith, counted-lacks odd (suc d) (suc g) e, counted-step g .0 (omega arith)))
+
+  half : counted odd (suc d) (suc (suc d)) ≡ 2 ^ d
+  unfolding start
+  half =
+      elim (ℕ-discrete (suc d % 2) odd) [
+        | yes e ↦ omega (arith, counted-step (suc d) .0 e, start-all d, size-above d (suc d) (omega arith))
+        | no e ↦ counted-step (suc d) .1 e ∙ start-all d
+      ]
+
+-- half of the masks have one parity
+pub half-count : (odd d : ℕ) → odd ≤ 1 → 0 < d → length (choose odd (order d)) ≡ 2 ^ (d - 1)
+unfolding counted order
+half-count odd zero o h = absurd (not-suc-le-zero h)
+half-count odd (suc d) o h = let e : suc d - 1 ≡ d = omega arith in half odd d o ∙ ap (λ x. 2 ^ x) (sym e)
+
+pub half-twice : (odd d : ℕ) → odd ≤ 1 → 0 < d → 2 * length (choose odd (order d)) ≡ 2 ^ d
+unfolding counted order
+half-twice odd zero o h = absurd (not-suc-le-zero h)
+half-twice odd (suc d) o h = omega (arith, half odd d o, pow-suc 2 d)
+
+-- a half set has dimensions
+pub half-some : (d n : ℕ) → 2 * n ≡ 2 ^ d → 0 < d
+half-some zero n e = absurd (omega arith)
+half-some (suc d) n e = omega arith
+
+-- ---- numbers given to the masks of one parity
+
+pub length-spread : (odd : ℕ) (ms : List ℕ) (v : List Float) → length (spread odd ms v) ≡ length ms
+unfolding spread
+length-spread odd [] v = refl
+length-spread odd (m ∷ ms) [] = ap suc (length-spread odd ms [])
+length-spread odd (m ∷ ms) (x ∷ v) = go (ofParity odd m) (length-spread odd ms v) (length-spread odd ms (x ∷ v))
+  where
+    go : (b : Bool) → length (spread odd ms v) ≡ length ms → length (spread odd ms (x ∷ v)) ≡ length ms → length (cond b (x ∷ spread odd ms v) (nought ∷ spread odd ms (x ∷ v))) ≡ suc (length ms)
+    go true h g = ap suc h
+    go false h g = ap suc g
+
+-- a half set becomes 2 ^ d coefficients
+pub length-half-set : (odd d : ℕ) (v : List Float) → length (spread odd (order d) v) ≡ 2 ^ d
+length-half-set odd d v = length-spread odd (order d) v ∙ length-order d
+
+module _ (odd m : ℕ) (ms : List ℕ) where
+  pub spread-has : (x : Float) (v : List Float) → ones m % 2 ≡ odd → spread odd (m ∷ ms) (x ∷ v) ≡ x ∷ spread odd ms v
+  unfolding spread
+  spread-has x v e = rw (eq-eqb _ _ e)
+
+  pub spread-lacks : (v : List Float) → (ones m % 2 ≡ odd → ⊥) → spread odd (m ∷ ms) v ≡ nought ∷ spread odd ms v
+  unfolding spread
+  spread-lacks [] e = refl
+  spread-lacks (x ∷ v) e = rw (ne-eqb _ _ e)
+
+-- after k masks, `at` of the numbers are given: what is left of them is for the masks that are left
+pub record Given (odd : ℕ) (ms : List ℕ) (v : List Float) (k at : ℕ) : Type 0 where
+  pub left : length v ≡ at + length (choose odd (drop k ms))
+  pub rest : drop k (spread odd ms v) ≡ spread odd (drop k ms) (drop at v)
+
+pub given-none : (odd : ℕ) (ms : List ℕ) (v : List Float) → length v ≡ length (choose odd ms) → Given odd ms v 0 0
+given-none odd ms v e = record { left = omega arith; rest = refl }
+
+module _ (odd : ℕ) (ms : List ℕ) (v : List Float) (k at : ℕ) (l : k < length ms) (g : Given odd ms v k at) where
+  -- what the next mask is given, and what is left then
+  next : drop k (spread odd ms v) ≡ getD (spread odd ms v) k nan ∷ drop (k + 1) (spread odd ms v)
+  next = rw add-one (drop-cons (spread odd ms v) k nan (omega (arith, length-spread odd ms v)))
+
+  module _ (p : ones (getD ms k 0) % 2 ≡ odd) where
+    pub given-fits : at < length v
+    given-fits = omega (arith, g .left, ap length (choose-next odd ms k l p))
+
+    given-next : getD (spread odd ms v) k nan ∷ drop (k + 1) (spread odd ms v) ≡ getD v at nan ∷ spread odd (drop (k + 1) ms) (drop (at + 1) v)
+    given-next =
+        sym next ∙ g .rest ∙ rw (rest odd ms k l, drop-cons v at nan given-fits, add-one at) (spread-has odd _ _ _ _ p)
+
+    pub given-number : getD v at nan ≡ getD (spread odd ms v) k nan
+    given-number = cc given-next
+
+    pub given-more : Given odd ms v (k + 1) (at + 1)
+    given-more = record { left = omega (arith, g .left, ap length (choose-next odd ms k l p)); rest = cc given-next }
+
+  module _ (p : ones (getD ms k 0) % 2 ≡ odd → ⊥) where
+    given-skip : getD (spread odd ms v) k nan ∷ drop (k + 1) (spread odd ms v) ≡ nought ∷ spread odd (drop (k + 1) ms) (drop at v)
+    given-skip = sym next ∙ g .rest ∙ rw (rest odd ms k l) (spread-lacks odd _ _ _ p)
+
+    pub given-nought : nought ≡ getD (spread odd ms v) k nan
+    given-nought = cc given-skip
+
+    pub given-same : Given odd ms v (k + 1) at
+    given-same = record { left = omega (arith, g .left, ap length (choose-skip odd ms k l p)); rest = cc given-skip }
+
+-- ---- packings
+
+-- what a packing says of n numbers in d dimensions
+abbrev pub Packs : Packing → ℕ → ℕ → Type 0
+Packs Full d n = n ≡ 2 ^ d
+Packs Half d n = 2 * n ≡ 2 ^ d
+Packs (Grade g) d n = (g ≤ d) × (size d g ≡ n)
+Packs Nothing d n = Unit {0}
+
+module _ (d n : ℕ) where
+  first-fits : (k g : ℕ) → g + k ≤ d + 1 → Packs (firstGrade d n k g) d n
+  unfolding firstGrade
+  first-fits zero g h = tt
+  first-fits (suc k) g h = go (eqb (size d g) n) (eqb-true (size d g) n) (first-fits k (g + 1) (omega arith))
+    where
+      go : (b : Bool) → (b ≡ true → size d g ≡ n) → Packs (firstGrade d n k (g + 1)) d n → Packs (cond b (Grade g) (firstGrade d n k (g + 1))) d n
+      go true e f = (omega arith, e refl)
+      go false e f = f
+
+  side : (odd : ℕ) → sideStart odd d + (sideEnd odd d - sideStart odd d) ≤ d + 1
+  side zero = omega arith
+  side (suc odd) = omega arith
+
+  pub packing-fits : (odd : ℕ) → Packs (packing odd d n) d n
+  unfolding packing
+  packing-fits odd = go (eqb n (2 ^ d)) (eqb-true n (2 ^ d)) (eqb (2 * n) (2 ^ d)) (eqb-true (2 * n) (2 ^ d))
+    where
+      one : Packing
+      one = firstGrade d n (sideEnd odd d - sideStart odd d) (sideStart odd d)
+
+      go : (b : Bool) → (b ≡ true → n ≡ 2 ^ d) → (c : Bool) → (c ≡ true → 2 * n ≡ 2 ^ d) → Packs (cond b Full (cond c Half one)) d n
+      go true e c f = e refl
+      go false e true f = f refl
+      go false e false f = first-fits (sideEnd odd d - sideStart odd d) (sideStart odd d) (side odd)
+
+-- the grade that is found is the first of its size among the k grades from g on
+pub record First (d n k g h : ℕ) : Type 0 where
+  pub from : g ≤ h
+  pub within : h < g + k
+  pub sized : size d h ≡ n
+  pub first : (j : ℕ) → g ≤ j → j < h → size d j ≡ n → ⊥
+
+pub first-is : (d n k g h : ℕ) → firstGrade d n k g ≡ Grade h → First d n k g h
+unfolding firstGrade
+first-is d n zero g h e = absurd (let z : _≡_ {A = ℕ} 0 1 = cc in omega arith)
+first-is d n (suc k) g h e = go (eqb (size d g) n) (eqb-true (size d g) n) (eqb-false (size d g) n) e (first-is d n k (g + 1) h)
+  where
+    go : (b : Bool) → (b ≡ true → size d g ≡ n) → (b ≡ false → size d g ≡ n → ⊥) → cond b (Grade g) (firstGrade d n k (g + 1)) ≡ Grade h → (firstGrade d n k (g + 1) ≡ Grade h → First d n k (g + 1) h) → First d n (suc k) g h
+    go true y z q f =
+        let w : g ≡ h = cc in
+        record { from = omega arith; within = omega arith; sized = ap (size d) (sym w) ∙ y refl; first = λ j l m s. omega arith }
+    go false y z q f =
+        let r = f q in
+        record {
+          from = omega arith;
+          within = omega arith;
+          sized = r .sized;
+          first = λ j l m s.
+              elim (ℕ-discrete g j) [ yes w ↦ z refl (ap (size d) w ∙ s) | no w ↦ r .first j (omega arith) m s ];
+        }
+
+module _ (d n g end : ℕ) where
+  pub first-found : g < end → size d g ≡ n → firstGrade d n (end - g) g ≡ Grade g
+  unfolding firstGrade
+  first-found l e = let s : end - g ≡ suc (end - (g + 1)) = omega arith in rw (s, eq-eqb _ _ e)
+
+  pub first-passed : g < end → (size d g ≡ n → ⊥) → firstGrade d n (end - g) g ≡ firstGrade d n (end - (g + 1)) (g + 1)
+  unfolding firstGrade
+  first-passed l e = let s : end - g ≡ suc (end - (g + 1)) = omega arith in rw (s, ne-eqb _ _ e)
+
+  pub first-none : end ≤ g → firstGrade d n (end - g) g ≡ Nothing
+  unfolding firstGrade
+  first-none l = let s : end - g ≡ 0 = omega arith in rw s
+
+module _ (odd d n : ℕ) where
+  pub packing-full : n ≡ 2 ^ d → packing odd d n ≡ Full
+  unfolding packing
+  packing-full e = rw (eq-eqb n (2 ^ d) e)
+
+  pub packing-half : (n ≡ 2 ^ d → ⊥) → 2 * n ≡ 2 ^ d → packing odd d n ≡ Half
+  unfolding packing
+  packing-half e h = rw (ne-eqb n (2 ^ d) e, eq-eqb (2 * n) (2 ^ d) h)
+
+  packing-one : (n ≡ 2 ^ d → ⊥) → (2 * n ≡ 2 ^ d → ⊥) → packing odd d n ≡ firstGrade d n (sideEnd odd d - sideStart odd d) (sideStart odd d)
+  unfolding packing
+  packing-one e h = rw (ne-eqb n (2 ^ d) e, ne-eqb (2 * n) (2 ^ d) h)
+
+-- where it is one grade, the first of that size on its side
+pub packing-first : (odd d n h : ℕ) → packing odd d n ≡ Grade h → First d n (sideEnd odd d - sideStart odd d) (sideStart odd d) h
+unfolding packing
+packing-first odd d n h e = go (eqb n (2 ^ d)) (eqb (2 * n) (2 ^ d)) e
+  where
+    k : ℕ
+    k = sideEnd odd d - sideStart odd d
+
+    go : (b c : Bool) → cond b Full (cond c Half (firstGrade d n k (sideStart odd d))) ≡ Grade h → First d n k (sideStart odd d) h
+    go true c q = absurd (let z : _≡_ {A = ℕ} 0 1 = cc in omega arith)
+    go false true q = absurd (let z : _≡_ {A = ℕ} 0 1 = cc in omega arith)
+    go false false q = first-is d n k (sideStart odd d) h q
+
+module _ (d n : ℕ) (f : n ≡ 2 ^ d → ⊥) (h : 2 * n ≡ 2 ^ d → ⊥) where
+  pub packing-left : (odd : ℕ) → odd ≡ 0 → packing odd d n ≡ firstGrade d n ((d + 2) / 2 - 0) 0
+  packing-left odd e = rw e (packing-one 0 d n f h)
+
+  pub packing-right : (odd : ℕ) → (odd ≡ 0 → ⊥) → packing odd d n ≡ firstGrade d n (d + 1 - (d + 1) / 2) ((d + 1) / 2)
+  packing-right zero e = absurd (e refl)
+  packing-right (suc odd) e = packing-one (suc odd) d n f h
+
+-- ---- refusals
+
+module _ (d room : ℕ) where
+  pub built-wide : 9 < d → builtRefusal d room ≡ 1
+  built-wide h = refused-first (tooMany d) _ (lt-ltb 9 d h)
+
+  pub built-short : d ≤ 9 → room < 2 ^ d → builtRefusal d room ≡ 3
+  built-short h l = refused-later (tooMany d) _ (le-ltb 9 d h) ∙ refused-first (noRoom room (2 ^ d)) _ (lt-ltb _ _ l)
+
+  pub built-done : d ≤ 9 → 2 ^ d ≤ room → builtRefusal d room ≡ 0
+  unfolding refusal
+  built-done h l = rw (le-ltb 9 d h, le-ltb room (2 ^ d) l)
+
+pub built-taken : (d room : ℕ) → builtRefusal d room ≡ 0 → (d ≤ 9) × (2 ^ d ≤ room)
+built-taken d room e =
+    let p = past (tooMany d) _ (λ q. omega arith) e in
+    let q = past (noRoom room (2 ^ d)) _ (λ q. omega arith) (p .1) in
+    (ltb-false _ _ (p .0), ltb-false _ _ (q .0))
+
+-- the dimensions that the code works out, which are 10 where those stated are above 9
+module _ (d added n : ℕ) (e : n ≡ cond (ltb 9 d) 10 (d + added)) where
+  -- dimensions above 9 are refused, whatever is added to them
+  pub added-refusal : (room : ℕ) → builtRefusal n room ≡ builtRefusal (d + added) room
+  unfolding refusal
+  added-refusal room = rw e (go (ltb 9 d) (ltb-true 9 d))
+    where
+      go : (b : Bool) → (b ≡ true → 9 < d) → builtRefusal (cond b 10 (d + added)) room ≡ builtRefusal (d + added) room
+      go true h = rw (lt-ltb 9 (d + added) (omega (arith, h refl)))
+      go false h = refl
+
+  pub added-exact : n ≤ 9 → n ≡ d + added
+  added-exact h = e ∙ go (ltb 9 d) (rw e at h)
+    where
+      go : (b : Bool) → cond b 10 (d + added) ≤ 9 → cond b 10 (d + added) ≡ d + added
+      go true l = absurd (omega arith)
+      go false l = refl
+
+pub added-le : (f : Flavor) → addedDims f ≤ 1
+unfolding addedDims
+added-le Vanilla = omega arith
+added-le Projective = omega arith
+added-le (Cl p n z) = omega arith
+
+-- the numbers of the grade below the last are at least 2
+module _ (n room : ℕ) where
+  pub few : n < 2 → refusal (tooMany n ∷ record { fails = ltb n 2; number = 2 } ∷ noRoom room (2 ^ n) ∷ []) ≡ 2
+  unfolding refusal
+  few l = rw (le-ltb 9 n (omega arith), lt-ltb n 2 l)
+
+  pub enough : 2 ≤ n → builtRefusal n room ≡ refusal (tooMany n ∷ record { fails = ltb n 2; number = 2 } ∷ noRoom room (2 ^ n) ∷ [])
+  unfolding refusal
+  enough l = rw (le-ltb n 2 l)
+
+-- what is refused of blades that are packed by p
+abbrev pub packRefusal : ℕ → Packing → ℕ → ℕ
+packRefusal d p room = refusal (tooMany d ∷ record { fails = unpacked p; number = 2 } ∷ noRoom room (2 ^ d) ∷ [])
+
+module _ (d : ℕ) (p : Packing) (room : ℕ) where
+  pub pack-wide : 9 < d → packRefusal d p room ≡ 1
+  pack-wide h = refused-first (tooMany d) _ (lt-ltb 9 d h)
+
+  module _ (h : d ≤ 9) where
+    pub pack-none : unpacked p ≡ true → packRefusal d p room ≡ 2
+    unfolding refusal
+    pack-none e = rw (le-ltb 9 d h, e)
+
+    pub pack-short : unpacked p ≡ false → room < 2 ^ d → packRefusal d p room ≡ 3
+    unfolding refusal
+    pack-short e l = rw (le-ltb 9 d h, e, lt-ltb room (2 ^ d) l)
+
+    pub pack-done : unpacked p ≡ false → 2 ^ d ≤ room → packRefusal d p room ≡ 0
+    unfolding refusal
+    pack-done e l = rw (le-ltb 9 d h, e, le-ltb room (2 ^ d) l)
+
+-- ---- what a call that is not refused gives
+
+module _ (v : List Float) (f : Flavor) (room : ℕ) (h : length v ≤ 9) (l : 2 ^ length v ≤ room) where
+  pub vector-built : vector v f room ≡ value (shapeOf (length v) f) (atGrade (length v) 1 v)
+  unfolding vector
+  vector-built = unless-done refusedValue _ 0 _ (sym (built-done (length v) room h l)) refl
+
+  pub n1-built : 2 ≤ length v → n1Blades v f room ≡ value (shapeOf (length v) f) (atGrade (length v) (length v - 1) v)
+  unfolding n1Blades
+  n1-built m =
+      unless-done refusedValue _ 0 _ (sym (built-done (length v) room h l) ∙ enough (length v) room m) refl
+
+module _ (d : ℕ) (x : Float) (f : Flavor) (room : ℕ) (h : d + addedDims f ≤ 9) (l : 2 ^ (d + addedDims f) ≤ room) where
+  pub scalar-built : scalar d x f room ≡ value (shapeOf (d + addedDims f) f) (atGrade (d + addedDims f) 0 (x ∷ []))
+  unfolding scalar
+  scalar-built = unless-done refusedValue _ 0 _ (sym (built-done (d + addedDims f) room h l)) refl
+
+  pub pseudoscalar-built : pseudoscalar d x f room ≡ value (shapeOf (d + addedDims f) f) (atGrade (d + addedDims f) (d + addedDims f) (x ∷ []))
+  unfolding pseudoscalar
+  pseudoscalar-built = unless-done refusedValue _ 0 _ (sym (built-done (d + addedDims f) room h l)) refl
+
+module _ (odd d : ℕ) (v : List Float) (f : Flavor) (room : ℕ) (h : d ≤ 9) (l : 2 ^ d ≤ room) where
+  packed-built : (p : Packing) → packing odd d (length v) ≡ p → unpacked p ≡ false → bladesOf odd d v f room ≡ packed p odd d v f
+  unfolding bladesOf
+  packed-built p e u = rw e (unless-done refusedValue _ 0 _ (sym (pack-done d p room h u l)) refl)
+
+  -- a full set is taken as it stands and becomes Vanilla
+  pub full-built : length v ≡ 2 ^ d → bladesOf odd d v f room ≡ value (shapeOf d Vanilla) v
+  full-built e = packed-built Full (packing-full odd d (length v) e) refl
+
+  pub half-built : 2 * length v ≡ 2 ^ d → bladesOf odd d v f room ≡ value (shapeOf d f) (spread odd (order d) v)
+  half-built e =
+      packed-built Half (packing-half odd d (length v) (λ q. omega (arith, pow-pos d)) e) refl
+
+  pub grade-built : (g : ℕ) → packing odd d (length v) ≡ Grade g → bladesOf odd d v f room ≡ value (shapeOf d f) (atGrade d g v)
+  grade-built g e = packed-built (Grade g) e refl

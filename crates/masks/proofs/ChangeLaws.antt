@@ -1,0 +1,165 @@
+-- Laws of changes of shape: conforming, the tests of a change, and what accepted calls give. Assumes nothing.
+use mathlib.Core.Path.{_≡_, refl, sym, ap, _∙_}
+use mathlib.Core.List.{List, [], _∷_}
+use Prim.Native.Nat.{ℕ, zero, suc, _+_, _^_, _≤_, _<_}
+use native.Mathlib.Nat.{add-zero}
+use native.Mathlib.Omega.{arith}
+use borrow.Author.Tests.{lt-ltb, le-ltb, ltb-false, eq-eqb, eqb-true, not-false}
+use lib.Ieee.{Float}
+use lib.ListN.{length, take}
+use Rattle.masks.specs.declared.flavor.Flavor.{Flavor}
+use Rattle.masks.specs.declared.flavor.Flavor.the-variants.{Vanilla, Projective, Cl}
+use Rattle.masks.specs.declared.outcome.Answer.{Answer}
+use Rattle.masks.specs.declared.outcome.Answers.{Answers}
+use Rattle.masks.specs.declared.shape.Shape.{Shape}
+use Rattle.masks.specs.Order.{bladeCount}
+use Rattle.masks.specs.Outcome.{Test, refusal, tooMany, wrongCount, noRoom, unless, laid, Outcome, shapeOf, refusedValue, value, answerOf, Gives, Pair, refusedPair, answersOf, GivesBoth}
+use Rattle.masks.specs.Shapes.{withDims, resized, setDims, promotes, promoted, setFlavor, conformed, promotedFlavor, conformedShape, conform}
+use Rattle.masks.proofs.ListLaws.{take-laid}
+use Rattle.masks.proofs.RefusalLaws.{past, Taken, taken, needed-same, refused-first, refused-later, unless-done, gives-refused, gives-both-refused}
+use Rattle.masks.proofs.ShapeLaws.{count-small, one, resized-length, resized-back, promoted-length}
+
+-- ---- conforming
+
+pub conformed-none : (up d n : ℕ) (a : List Float) → up ≡ 0 → resized d n a ≡ conformed up d n a
+unfolding conformed promoted
+conformed-none up d n a e = rw (e, add-zero d)
+
+-- a promotion through a buffer
+pub conformed-one : (up d n count : ℕ) (a held buf : List Float) → up ≤ 1 → (up ≡ 0 → ⊥) → count ≡ 2 ^ (d + 1) → held ≡ laid (promoted 1 d a) buf → resized (d + 1) n (take count held) ≡ conformed up d n a
+unfolding conformed
+conformed-one up d n count a held buf l h c e =
+    rw (e, c, take-laid (2 ^ (d + 1)) (promoted 1 d a) buf (promoted-length d a)) (ap (λ (u : ℕ). resized (d + u) n (promoted u d a)) (one up l h))
+
+pub promotes-le : (f g : Flavor) → promotes f g ≤ 1
+unfolding promotes
+promotes-le Vanilla Vanilla = omega arith
+promotes-le Vanilla Projective = omega arith
+promotes-le Vanilla (Cl p n z) = omega arith
+promotes-le Projective g = omega arith
+promotes-le (Cl p n z) g = omega arith
+
+pub flavor-one : (up : ℕ) (f : Flavor) → (up ≡ 0 → ⊥) → Projective ≡ promotedFlavor up f
+flavor-one zero f h = absurd (h refl)
+flavor-one (suc up) f h = refl
+
+-- ---- the tests of a change of shape
+
+-- of one value of d dimensions, changed to n
+abbrev pub checks : ℕ → ℕ → ℕ → ℕ → ℕ → List Test
+checks d n count room needed = tooMany d ∷ tooMany n ∷ wrongCount count d ∷ noRoom room needed ∷ []
+
+pub passes : (d n count room needed : ℕ) → Taken d n count room needed → refusal (checks d n count room needed) ≡ 0
+unfolding refusal
+passes d n count room needed t =
+    simp (le-ltb 9 d (t .small), le-ltb 9 n (t .result), eq-eqb count (2 ^ d) (t .counted), le-ltb room needed (t .roomy))
+
+-- the code's number is the definition's
+pub checked : (k d n count room needed : ℕ) → k ≡ refusal (checks d n count room needed) → needed ≡ bladeCount n → k ≡ refusal (checks d n count room (2 ^ n))
+checked k d n count room needed e b = e ∙ needed-same d n count room needed (2 ^ n) (λ h. b ∙ count-small n h)
+
+-- the first test fails
+pub first-refused : (d : ℕ) (ts : List Test) (o : Outcome) (r : Answer) (out : List Float) → 9 < d → r ≡ answerOf (refusedValue 1) → Gives (unless refusedValue (refusal (tooMany d ∷ ts)) o) r out out
+first-refused d ts o r out h e =
+    gives-refused (refusal (tooMany d ∷ ts)) 1 o r out (sym (refused-first (tooMany d) ts (lt-ltb 9 d h))) (λ q. omega arith) e
+
+-- of two, of d and e dimensions, changed to n
+abbrev pub pairChecks : ℕ → ℕ → ℕ → ℕ → ℕ → ℕ → ℕ → List Test
+pairChecks d e n count countRight room roomRight =
+    tooMany d ∷ tooMany e ∷ tooMany n ∷ wrongCount count d ∷ wrongCount countRight e ∷ noRoom room (2 ^ n) ∷ noRoom roomRight (2 ^ n) ∷ []
+
+pub left-refused : (d : ℕ) (ts : List Test) (o : Pair) (r : Answers) (out outRight : List Float) → 9 < d → r ≡ answersOf (refusedPair 1) → GivesBoth (unless refusedPair (refusal (tooMany d ∷ ts)) o) r out out outRight outRight
+left-refused d ts o r out outRight h e =
+    gives-both-refused (refusal (tooMany d ∷ ts)) 1 o r out outRight (sym (refused-first (tooMany d) ts (lt-ltb 9 d h))) (λ q. omega arith) e
+
+pub right-refused : (d e : ℕ) (ts : List Test) (o : Pair) (r : Answers) (out outRight : List Float) → d ≤ 9 → 9 < e → r ≡ answersOf (refusedPair 1) → GivesBoth (unless refusedPair (refusal (tooMany d ∷ tooMany e ∷ ts)) o) r out out outRight outRight
+right-refused d e ts o r out outRight l h q =
+    rw (refused-later (tooMany d) (tooMany e ∷ ts) (le-ltb 9 d l)) (left-refused e ts o r out outRight h q)
+
+-- what a caller may rest on where two values are not refused
+pub record Paired (d e n count countRight room roomRight : ℕ) : Type 0 where
+  pub small : d ≤ 9
+  pub smallRight : e ≤ 9
+  pub result : n ≤ 9
+  pub counted : count ≡ 2 ^ d
+  pub countedRight : countRight ≡ 2 ^ e
+  pub roomy : 2 ^ n ≤ room
+  pub roomyRight : 2 ^ n ≤ roomRight
+
+pub paired : (d e n count countRight room roomRight : ℕ) → refusal (pairChecks d e n count countRight room roomRight) ≡ 0 → Paired d e n count countRight room roomRight
+paired d e n count countRight room roomRight z =
+    let p = past (tooMany d) _ (λ q. omega arith) z in
+    let q = past (tooMany e) _ (λ q. omega arith) (p .1) in
+    let r = past (tooMany n) _ (λ q. omega arith) (q .1) in
+    let t = past (wrongCount count d) _ (λ q. omega arith) (r .1) in
+    let u = past (wrongCount countRight e) _ (λ q. omega arith) (t .1) in
+    let v = past (noRoom room (2 ^ n)) _ (λ q. omega arith) (u .1) in
+    let w = past (noRoom roomRight (2 ^ n)) _ (λ q. omega arith) (v .1) in
+    record {
+      small = ltb-false _ _ (p .0);
+      smallRight = ltb-false _ _ (q .0);
+      result = ltb-false _ _ (r .0);
+      counted = eqb-true _ _ (not-false _ (t .0));
+      countedRight = eqb-true _ _ (not-false _ (u .0));
+      roomy = ltb-false _ _ (v .0);
+      roomyRight = ltb-false _ _ (w .0);
+    }
+
+-- ---- an outcome whose number is 0 is not a refusal
+
+pub not-refused : (k : ℕ) (o : Outcome) → unless refusedValue k o .number ≡ 0 → (k ≡ 0) × (unless refusedValue k o ≡ o)
+unfolding unless
+not-refused zero o e = (refl, refl)
+not-refused (suc k) o e = absurd (omega arith)
+
+-- ---- dimensions there and back
+
+pub set-dims-done : (s : Shape) (n : ℕ) (a : List Float) (room : ℕ) → Taken (s .dims) n (length a) room (2 ^ n) → setDims s n a room ≡ value (withDims s n) (resized (s .dims) n a)
+unfolding setDims
+set-dims-done s n a room t =
+    unless-done refusedValue (refusal (checks (s .dims) n (length a) room (2 ^ n))) 0 _ (sym (passes (s .dims) n (length a) room (2 ^ n) t)) refl
+
+pub set-dims-taken : (s : Shape) (n : ℕ) (a : List Float) (room : ℕ) → setDims s n a room .number ≡ 0 → Taken (s .dims) n (length a) room (2 ^ n)
+unfolding setDims
+set-dims-taken s n a room e =
+    taken (s .dims) n (length a) room (2 ^ n) (not-refused (refusal (checks (s .dims) n (length a) room (2 ^ n))) _ e .0)
+
+-- what an accepted call grows, a call with room for the old numbers shrinks to the value that it was
+pub set-dims-back : (s : Shape) (n : ℕ) (a : List Float) (room back : ℕ) → s .dims ≤ n → setDims s n a room .number ≡ 0 → length a ≤ back → setDims (setDims s n a room .shape) (s .dims) (setDims s n a room .coefs) back ≡ value s a
+set-dims-back s n a room back l e r =
+    let t = set-dims-taken s n a room e in
+    rw (set-dims-done s n a room t)
+    (set-dims-done (withDims s n) (s .dims) (resized (s .dims) n a) back (record { small = t .result; result = t .small; counted = resized-length (s .dims) n a; roomy = omega (arith, t .counted) })
+    ∙ ap (value s) (resized-back (s .dims) n a l (t .counted)))
+
+-- ---- a promotion
+
+pub set-flavor-projective : (s : Shape) (a : List Float) (room : ℕ) → s .flavor ≡ Vanilla → setFlavor s Projective a room .number ≡ 0 → setFlavor s Projective a room ≡ value (shapeOf (s .dims + 1) Projective) (promoted 1 (s .dims) a)
+unfolding setFlavor promotes
+set-flavor-projective s a room v e =
+    not-refused _ _ e .1
+    ∙ ap (λ (u : ℕ). value (shapeOf (s .dims + u) Projective) (promoted u (s .dims) a)) (ap (λ (f : Flavor). promotes f Projective) v)
+
+-- ---- both of two values
+
+same-dims : (k : ℕ) (o : Pair) → o .leftShape .dims ≡ o .rightShape .dims → unless refusedPair k o .leftShape .dims ≡ unless refusedPair k o .rightShape .dims
+unfolding unless
+same-dims zero o h = h
+same-dims (suc k) o h = refl
+
+-- conforming gives equal dimensions, also where it is refused
+pub conform-dims : (s t : Shape) (a b : List Float) (room roomRight : ℕ) → conform s t a b room roomRight .leftShape .dims ≡ conform s t a b room roomRight .rightShape .dims
+unfolding conform conformedShape
+conform-dims s t a b room roomRight = same-dims _ _ refl
+
+abbrev Sized : Pair → Type 0
+Sized o = (length (o .leftCoefs) ≡ 2 ^ (o .leftShape .dims)) × (length (o .rightCoefs) ≡ 2 ^ (o .rightShape .dims))
+
+sized : (k : ℕ) (o : Pair) → Sized o → unless refusedPair k o .number ≡ 0 → Sized (unless refusedPair k o)
+unfolding unless
+sized zero o h e = h
+sized (suc k) o h e = absurd (omega arith)
+
+pub conform-lengths : (s t : Shape) (a b : List Float) (room roomRight : ℕ) → conform s t a b room roomRight .number ≡ 0 → (length (conform s t a b room roomRight .leftCoefs) ≡ 2 ^ (conform s t a b room roomRight .leftShape .dims)) × (length (conform s t a b room roomRight .rightCoefs) ≡ 2 ^ (conform s t a b room roomRight .rightShape .dims))
+unfolding conform conformed conformedShape
+conform-lengths s t a b room roomRight e = sized _ _ (resized-length _ _ _, resized-length _ _ _) e

@@ -1,0 +1,112 @@
+-- What holds where a call is refused and where it is not; and that a contract of each kind leaves nothing open. Assumes nothing.
+use mathlib.Core.Path.{_≡_, refl, sym, _∙_}
+use mathlib.Core.Bool.{Bool, true, false, not, cond}
+use mathlib.Core.List.{List, [], _∷_}
+use Prim.Native.Nat.{ℕ, zero, suc, _^_, _≤_, _<_}
+use native.Mathlib.Omega.{arith}
+use lib.Dec.{ltb, eqb}
+use lib.Ieee.{Float}
+use lib.ListN.{length}
+use borrow.Author.Tests.{lt-ltb, le-ltb, ltb-false, eqb-true, not-false}
+use Rattle.masks.specs.declared.outcome.Answer.{Answer}
+use Rattle.masks.specs.declared.outcome.Answers.{Answers}
+use Rattle.masks.specs.declared.outcome.Count.{Count}
+use Rattle.masks.specs.Outcome.{Test, refusal, tooMany, wrongCount, noRoom, unless, laid, Outcome, refusedValue, answerOf, Gives, Pair, refusedPair, answersOf, GivesBoth, Written, refusedList, countOf, Writes}
+
+-- ---- lists of tests
+
+-- where no test of a list fails, the first does not, nor one of the rest
+pub past : (t : Test) (ts : List Test) → (t .number ≡ 0 → ⊥) → refusal (t ∷ ts) ≡ 0 → (t .fails ≡ false) × (refusal ts ≡ 0)
+unfolding refusal
+past t ts n e = go (t .fails) e
+  where
+    go : (b : Bool) → cond b (t .number) (refusal ts) ≡ 0 → (b ≡ false) × (refusal ts ≡ 0)
+    go true q = absurd (n q)
+    go false q = (refl, q)
+
+-- what a caller may rest on where a call on a value of d dimensions is not refused
+pub record Taken (d n count room needed : ℕ) : Type 0 where
+  pub small : d ≤ 9
+  pub result : n ≤ 9
+  pub counted : count ≡ 2 ^ d
+  pub roomy : needed ≤ room
+
+pub taken : (d n count room needed : ℕ) → refusal (tooMany d ∷ tooMany n ∷ wrongCount count d ∷ noRoom room needed ∷ []) ≡ 0 → Taken d n count room needed
+taken d n count room needed e =
+    let p = past (tooMany d) _ (λ q. omega arith) e in
+    let q = past (tooMany n) _ (λ q. omega arith) (p .1) in
+    let r = past (wrongCount count d) _ (λ q. omega arith) (q .1) in
+    let s = past (noRoom room needed) _ (λ q. omega arith) (r .1) in
+    record {
+      small = ltb-false _ _ (p .0);
+      result = ltb-false _ _ (q .0);
+      counted = eqb-true _ _ (not-false _ (r .0));
+      roomy = ltb-false _ _ (s .0);
+    }
+
+-- where the dimensions are refused, the numbers that are needed do not count
+pub needed-same : (d n count room needed needed′ : ℕ) → (n ≤ 9 → needed ≡ needed′) → refusal (tooMany d ∷ tooMany n ∷ wrongCount count d ∷ noRoom room needed ∷ []) ≡ refusal (tooMany d ∷ tooMany n ∷ wrongCount count d ∷ noRoom room needed′ ∷ [])
+unfolding refusal
+needed-same d n count room needed needed′ h = go (ltb 9 n) (ltb-false 9 n)
+  where
+    rest : ℕ → ℕ
+    rest k = cond (not (eqb count (2 ^ d))) 2 (cond (ltb room k) 3 0)
+
+    go : (b : Bool) → (b ≡ false → n ≤ 9) → cond (ltb 9 d) 1 (cond b 1 (rest needed)) ≡ cond (ltb 9 d) 1 (cond b 1 (rest needed′))
+    go true f = refl
+    go false f = rw (h (f refl))
+
+-- the first test fails
+pub refused-first : (t : Test) (ts : List Test) → t .fails ≡ true → refusal (t ∷ ts) ≡ t .number
+unfolding refusal
+refused-first t ts e = rw e
+
+-- the first test does not fail
+pub refused-later : (t : Test) (ts : List Test) → t .fails ≡ false → refusal (t ∷ ts) ≡ refusal ts
+unfolding refusal
+refused-later t ts e = rw e
+
+-- ---- the result, or a refusal
+
+module _ {ℓ} {A : Type ℓ} (f : ℕ → A) where
+  -- n is the number k that was worked out
+  pub unless-refused : (k n : ℕ) (a : A) → n ≡ k → (n ≡ 0 → ⊥) → unless f k a ≡ f n
+  unfolding unless
+  unless-refused zero n a e h = absurd (h e)
+  unless-refused (suc k) n a e h = rw e
+
+  pub unless-done : (k n : ℕ) (a : A) → n ≡ k → n ≡ 0 → unless f k a ≡ a
+  unfolding unless
+  unless-done zero n a e h = refl
+  unless-done (suc k) n a e h = absurd (omega arith)
+
+-- a refusal gives its number and leaves the output
+pub gives-refused : (k n : ℕ) (o : Outcome) (r : Answer) (out : List Float) → n ≡ k → (n ≡ 0 → ⊥) → r ≡ answerOf (refusedValue n) → Gives (unless refusedValue k o) r out out
+gives-refused k n o r out e h a = rw (unless-refused refusedValue k n o e h) (record { answered = a; left = refl })
+
+pub gives-done : (k n : ℕ) (o : Outcome) (r : Answer) (before after : List Float) → n ≡ k → n ≡ 0 → r ≡ answerOf o → after ≡ laid (o .coefs) before → Gives (unless refusedValue k o) r before after
+gives-done k n o r before after e h a l = rw (unless-done refusedValue k n o e h) (record { answered = a; left = l })
+
+pub gives-both-refused : (k n : ℕ) (o : Pair) (r : Answers) (out outRight : List Float) → n ≡ k → (n ≡ 0 → ⊥) → r ≡ answersOf (refusedPair n) → GivesBoth (unless refusedPair k o) r out out outRight outRight
+gives-both-refused k n o r out outRight e h a = rw (unless-refused refusedPair k n o e h) (record { answered = a; left = refl; right = refl })
+
+pub gives-both-done : (k n : ℕ) (o : Pair) (r : Answers) (before after beforeRight afterRight : List Float) → n ≡ k → n ≡ 0 → r ≡ answersOf o → after ≡ laid (o .leftCoefs) before → afterRight ≡ laid (o .rightCoefs) beforeRight → GivesBoth (unless refusedPair k o) r before after beforeRight afterRight
+gives-both-done k n o r before after beforeRight afterRight e h a l m = rw (unless-done refusedPair k n o e h) (record { answered = a; left = l; right = m })
+
+module _ {A : Type 0} where
+  pub writes-refused : (k n : ℕ) (o : Written A) (r : Count) (out : List A) → n ≡ k → (n ≡ 0 → ⊥) → r ≡ record { number = n; count = 0 } → Writes (unless refusedList k o) r out out
+  writes-refused k n o r out e h a = rw (unless-refused refusedList k n o e h) (record { counted = a; left = refl })
+
+  pub writes-done : (k n : ℕ) (o : Written A) (r : Count) (before after : List A) → n ≡ k → n ≡ 0 → r ≡ countOf o → after ≡ laid (o .items) before → Writes (unless refusedList k o) r before after
+  writes-done k n o r before after e h a l = rw (unless-done refusedList k n o e h) (record { counted = a; left = l })
+
+-- ---- nothing is left open: an outcome and what the output held determine the answer and what it holds after
+
+pub gives-one : {o : Outcome} {r r′ : Answer} {before after after′ : List Float} → Gives o r before after → Gives o r′ before after′ → (r ≡ r′) × (after ≡ after′)
+gives-one g h = (g .answered ∙ sym (h .answered), g .left ∙ sym (h .left))
+
+pub gives-both-one : {o : Pair} {r r′ : Answers} {b a a′ bRight aRight aRight′ : List Float} → GivesBoth o r b a bRight aRight → GivesBoth o r′ b a′ bRight aRight′ → (r ≡ r′) × (a ≡ a′) × (aRight ≡ aRight′)
+gives-both-one g h = (g .answered ∙ sym (h .answered), g .left ∙ sym (h .left), g .right ∙ sym (h .right))
+
+pub writes-one : {A : Type 0} {o : Written A} {r r′ : Count} {before after after′ : List A} → Writes o r before after → Writes o r′ before after′ → (r ≡ r′) × (after ≡ after′)
+writes-one g h = (g .counted ∙ sym (h .counted), g .left ∙ sym (h .left))

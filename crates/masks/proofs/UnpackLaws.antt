@@ -1,0 +1,371 @@
+-- What unpacking reads: the masks that are chosen, and their coefficients; and that what was built is read back. Assumes nothing.
+use mathlib.Core.Path.{_≡_, refl, sym, ap, _∙_, subst}
+use mathlib.Core.Bool.{Bool, true, false, cond}
+use mathlib.Core.List.{List, [], _∷_, _++_, map, append-assoc, append-nil}
+use Prim.Native.Nat.{ℕ, zero, suc, _+_, _-_, _*_, _%_, _^_, _≤_, _<_}
+use native.Mathlib.Numerals.{add-one}
+use native.Mathlib.Omega.{arith}
+use native.Mathlib.Decide.{ℕ-discrete}
+use borrow.Author.Tests.{eq-eqb, ne-eqb, le-ltb}
+use lib.Count.{ones, onesIn, ones-ones}
+use lib.Ieee.{Float, nan}
+use lib.ListN.{length, getD, set, take, drop, length-drop, length-map, drop-of-length-le, replicate, length-replicate}
+use lib.Seq.{length-take-le, take-suc-set, take-append-le, drop-append-le, drop-at, take-at}
+use lib.Pow.{pow-pos, ones-lt}
+use Rattle.masks.specs.declared.order.Order.{Order}
+use Rattle.masks.specs.declared.outcome.Count.{Count}
+use Rattle.masks.specs.declared.shape.Shape.{Shape}
+use Rattle.masks.specs.declared.flavor.Flavor.{Flavor}
+use Rattle.masks.specs.declared.flavor.Flavor.the-variants.{Vanilla}
+use Rattle.masks.specs.declared.build.Packing.the-variants.{Grade}
+use Rattle.masks.specs.Order.{order, size, start, rank, place, held, masksOf, orderFor, taken}
+use Rattle.masks.specs.Outcome.{Outcome, shapeOf, refusal, unless, laid, refusedList, listed, countOf}
+use Rattle.masks.specs.Flavors.{addedDims}
+use Rattle.masks.specs.Shapes.{nought, coef, moved, getBlade, gradeRefusal, gradePart}
+use Rattle.masks.specs.Build.{padded, atGrade, vector, n1Blades, scalar, pseudoscalar, packing, ofParity, spread, bladesOf}
+use Rattle.masks.specs.Unpack.{choose, halfMasks, unpackRefusal, unpackAll, halfOf, unpackHalf, unpackOwnHalf, unpackVector}
+use Rattle.masks.proofs.OrderLaws.{length-order, size-zero, grade-has, place-lt, order-place, order-at, blades-le, take-masks}
+use Rattle.masks.proofs.RefusalLaws.{unless-done}
+use Rattle.masks.proofs.ShapeLaws.{holds-masks, coef-inside, coef-outside, moved-other, ordered}
+use Rattle.masks.proofs.ChangeLaws.{passes}
+use Rattle.masks.proofs.BladeLaws.{get-blade-done}
+use Rattle.masks.proofs.BuildLaws.{padded-at, lt-blades, start-one, size-one, size-last, size-before-last, grade-fits, vector-fits, length-grade-set, choose-has, choose-lacks, choose-le, choose-next, choose-skip, half-count}
+use Rattle.masks.proofs.BuildLaws.{half-twice, half-some, length-half-set, spread-has, spread-lacks, Packs, packing-fits, vector-built, n1-built, scalar-built, pseudoscalar-built, full-built, half-built, grade-built}
+
+-- ---- masks chosen one after the other
+
+-- of the first i masks, those of one parity stand in front of the output, `end` of them
+pub record Chosen (odd : ℕ) (ms room : List ℕ) (i end : ℕ) : Type 0 where
+  pub counted : end + length (choose odd (drop i ms)) ≡ length (choose odd ms)
+  pub front : take end room ++ choose odd (drop i ms) ≡ choose odd ms
+
+pub chosen-none : (odd : ℕ) (ms room : List ℕ) → Chosen odd ms room 0 0
+chosen-none odd ms room = record { counted = omega arith; front = refl }
+
+module _ (odd : ℕ) (ms room : List ℕ) (i end : ℕ) (c : Chosen odd ms room i end) where
+  pub chosen-all : length ms ≤ i → ((end ≡ length (choose odd ms)) × (take end room ≡ choose odd ms))
+  unfolding choose
+  chosen-all l =
+      let d : drop i ms ≡ [] = drop-of-length-le ms {i = i} l in
+      (omega (arith, c .counted, ap (λ l. length (choose odd l)) d), sym (append-nil (take end room)) ∙ rw d at (c .front))
+
+  module _ (l : i < length ms) where
+    pub chosen-fits : ones (getD ms i 0) % 2 ≡ odd → end < length ms
+    chosen-fits p = omega (arith, c .counted, choose-le odd ms, ap length (choose-next odd ms i l p))
+
+    pub chosen-more : ones (getD ms i 0) % 2 ≡ odd → end < length room → Chosen odd ms (set room end (getD ms i 0)) (i + 1) (end + 1)
+    chosen-more p h =
+        record {
+          counted = omega (arith, c .counted, ap length (choose-next odd ms i l p));
+          front =
+              rw (add-one end, take-suc-set room end (getD ms i 0) h, append-assoc (take end room)) (rw (choose-next odd ms i l p) at (c .front));
+        }
+
+    pub chosen-same : (ones (getD ms i 0) % 2 ≡ odd → ⊥) → Chosen odd ms room (i + 1) end
+    chosen-same p =
+        record {
+          counted = omega (arith, c .counted, ap length (choose-skip odd ms i l p));
+          front = rw (choose-skip odd ms i l p) at (c .front);
+        }
+
+-- ---- half of the blades
+
+module _ (odd lone d : ℕ) where
+  pub lone-mask : d ≡ 0 → halfMasks odd lone d ≡ lone ∷ []
+  unfolding halfMasks
+  lone-mask e = rw (eq-eqb d 0 e)
+
+  pub half-masks : (d ≡ 0 → ⊥) → halfMasks odd lone d ≡ choose odd (order d)
+  unfolding halfMasks
+  half-masks e = rw (ne-eqb d 0 e)
+
+-- half of the masks, and one where there are no dimensions
+pub length-half : (odd lone d : ℕ) → odd ≤ 1 → length (halfMasks odd lone d) ≡ 2 ^ (d - 1)
+unfolding halfMasks
+length-half odd lone zero o = refl
+length-half odd lone (suc d) o =
+    ap length (half-masks odd lone (suc d) (λ e. omega arith)) ∙ half-count odd (suc d) o (omega arith)
+
+-- ---- the coefficients of masks that a value may have
+
+-- each mask of a list is below n
+abbrev Low : ℕ → List ℕ → Type 0
+Low n [] = Unit {0}
+Low n (m ∷ ms) = (m < n) × Low n ms
+
+low-by : (n : ℕ) (ms : List ℕ) → ((k : ℕ) → k < length ms → getD ms k 0 < n) → Low n ms
+low-by n [] h = tt
+low-by n (m ∷ ms) h = (h 0 (omega arith), low-by n ms (λ k l. h (suc k) (omega arith)))
+
+low-order : (d : ℕ) → d ≤ 9 → Low 512 (order d)
+low-order d h =
+    low-by 512 (order d) (λ k l. omega (arith, order-at d k (omega (arith, length-order d)) .low, blades-le d h))
+
+low-take : (n k : ℕ) (ms : List ℕ) → Low n ms → Low n (take k ms)
+low-take n zero ms h = tt
+low-take n (suc k) [] h = tt
+low-take n (suc k) (m ∷ ms) h = (h .0, low-take n k ms (h .1))
+
+low-drop : (n k : ℕ) (ms : List ℕ) → Low n ms → Low n (drop k ms)
+low-drop n zero ms h = h
+low-drop n (suc k) [] h = tt
+low-drop n (suc k) (m ∷ ms) h = low-drop n k ms (h .1)
+
+low-choose : (n odd : ℕ) (ms : List ℕ) → Low n ms → Low n (choose odd ms)
+unfolding choose
+low-choose n odd [] h = tt
+low-choose n odd (m ∷ ms) h = go (ofParity odd m) (low-choose n odd ms (h .1))
+  where
+    go : (b : Bool) → Low n (choose odd ms) → Low n (cond b (m ∷ choose odd ms) (choose odd ms))
+    go true l = (h .0, l)
+    go false l = l
+
+-- the masks of grade 1, as the code holds them
+vector-held : (d : ℕ) → take d (drop 1 (masksOf d)) ≡ take d (drop 1 (order d))
+unfolding masksOf held
+vector-held d =
+    rw (drop-append-le 1 (order d) _ (omega (arith, length-order d, lt-blades d)), take-append-le d (drop 1 (order d)) _ (omega (arith, length-order d, lt-blades d, length-drop 1 (order d))))
+
+module _ (turned dims : ℕ) (a : List Float) (t : 512 ≤ turned) where
+  -- none of these masks is the one that is negated
+  unturned : (ms : List ℕ) → Low 512 ms → map (moved turned dims a) ms ≡ map (coef dims a) ms
+  unturned [] h = refl
+  unturned (m ∷ ms) h =
+      rw (moved-other turned dims m a (λ e. omega (arith, h .0)), unturned ms (h .1))
+
+  -- what is written where the coefficients of such masks are gathered
+  module _ (d : ℕ) (ms : List ℕ) (l : d ≤ 9) (e : ms ≡ masksOf d) (before after : List Float) where
+    pub all-read : (count : ℕ) → count ≡ 2 ^ d → after ≡ laid (map (moved turned dims a) (take count (drop 0 ms))) before → after ≡ laid (map (coef dims a) (order d)) before
+    all-read count n g = g ∙ rw (e, n, take-masks d, unturned (order d) (low-order d l))
+
+    pub vector-read : after ≡ laid (map (moved turned dims a) (take d (drop 1 ms))) before → after ≡ laid (map (coef dims a) (take d (drop 1 (order d)))) before
+    vector-read g =
+        g
+        ∙ rw (e, vector-held d, unturned (take d (drop 1 (order d))) (low-take 512 d (drop 1 (order d)) (low-drop 512 1 (order d) (low-order d l))))
+
+    pub half-read : (odd lone n count : ℕ) (chosen : List ℕ) → (d ≡ 0 → ⊥) → n ≡ 2 ^ d → take count chosen ≡ choose odd (take n ms) → after ≡ laid (map (moved turned dims a) (take count (drop 0 chosen))) before → after ≡ laid (map (coef dims a) (halfMasks odd lone d)) before
+    half-read odd lone n count chosen s q h g =
+        g
+        ∙ rw (h, e, q, take-masks d, half-masks odd lone d s, unturned (choose odd (order d)) (low-choose 512 odd (order d) (low-order d l)))
+
+-- ---- what the code holds and answers
+
+pub held-order : (o : Order) (d n : ℕ) → d ≤ 9 → o ≡ orderFor (taken d) → n ≡ 2 ^ d → take n (o .masks) ≡ order d
+held-order o d n h e q = rw (q, holds-masks o d h e) (take-masks d)
+
+pub counts : (n : ℕ) (f : ℕ → Float) (ms : List ℕ) → n ≡ length ms → _≡_ {A = Count} (record { number = 0; count = n }) (countOf (listed (map f ms)))
+counts n f ms e = rw (length-map ms f, e)
+
+pub half-le : (d : ℕ) → d ≤ 9 → 2 ^ (d - 1) ≤ 512
+half-le d h = blades-le (d - 1) (omega arith)
+
+-- the masks of grade 1 are as many as the dimensions
+pub vector-length : (d : ℕ) → length (take d (drop 1 (order d))) ≡ d
+vector-length d =
+    length-take-le d (drop 1 (order d)) (omega (arith, length-order d, lt-blades d, length-drop 1 (order d)))
+
+-- ---- what a call that is not refused gives
+
+module _ (s : Shape) (a : List Float) (h : s .dims ≤ 9) (e : length a ≡ 2 ^ s .dims) where
+  accepted : (d room needed : ℕ) → d ≤ 9 → needed ≤ room → unpackRefusal (s .dims) d a room needed ≡ 0
+  accepted d room needed l m =
+      passes (s .dims) d (length a) room needed (record { small = h; result = l; counted = e; roomy = m })
+
+  pub all-unpacked : (d room : ℕ) → d ≤ 9 → 2 ^ d ≤ room → unpackAll s d a room ≡ listed (map (coef (s .dims) a) (order d))
+  unfolding unpackAll
+  all-unpacked d room l m = unless-done refusedList _ 0 _ (sym (accepted d room (2 ^ d) l m)) refl
+
+  pub half-unpacked : (odd lone d room : ℕ) → d ≤ 9 → 2 ^ (d - 1) ≤ room → halfOf odd lone (s .dims) d a room ≡ listed (map (coef (s .dims) a) (halfMasks odd lone d))
+  unfolding halfOf
+  half-unpacked odd lone d room l m = unless-done refusedList _ 0 _ (sym (accepted d room (2 ^ (d - 1)) l m)) refl
+
+  pub vector-unpacked : (room : ℕ) → s .dims ≤ room → unpackVector s a room ≡ listed (map (coef (s .dims) a) (take (s .dims) (drop 1 (order (s .dims)))))
+  unfolding unpackVector
+  vector-unpacked room m = unless-done refusedList _ 0 _ (sym (accepted (s .dims) room (s .dims) h m)) refl
+
+  pub part-taken : (g : ℕ) → g ≤ s .dims → gradePart s g a ≡ take (size (s .dims) g) (drop (start (s .dims) g) a)
+  unfolding gradePart gradeRefusal refusal unless
+  part-taken g l = rw (le-ltb 9 (s .dims) h, eq-eqb (length a) (2 ^ s .dims) e, le-ltb (s .dims) g l)
+
+-- ---- what was built is read back: coefficients
+
+module _ {ℓ κ} {A : Type ℓ} {B : Type κ} (f : A → B) where
+  map-take : (n : ℕ) (l : List A) → map f (take n l) ≡ take n (map f l)
+  map-take zero l = refl
+  map-take (suc n) [] = refl
+  map-take (suc n) (x ∷ l) = ap (λ t. f x ∷ t) (map-take n l)
+
+  map-drop : (n : ℕ) (l : List A) → map f (drop n l) ≡ drop n (map f l)
+  map-drop zero l = refl
+  map-drop (suc n) [] = refl
+  map-drop (suc n) (x ∷ l) = map-drop n l
+
+-- all blades of a value are its numbers
+pub all-back : (d : ℕ) (a : List Float) → length a ≡ 2 ^ d → map (coef d a) (order d) ≡ a
+all-back d a e = ordered (coef d a) d a e (λ m h. refl)
+
+-- the numbers of a grade, where they were put
+pub grade-back : (d g : ℕ) (v : List Float) → size d g ≡ length v → take (size d g) (drop (start d g) (atGrade d g v)) ≡ v
+unfolding atGrade padded
+grade-back d g v e =
+    rw (append-assoc (replicate (start d g) nought) v, drop-at (replicate (start d g) nought) _ (start d g) (length-replicate (start d g) nought))
+    (take-at v _ (size d g) (sym e))
+
+pub vector-back : (v : List Float) → map (coef (length v) (atGrade (length v) 1 v)) (take (length v) (drop 1 (order (length v)))) ≡ v
+vector-back v =
+    let n : ℕ = length v in
+    let a : List Float = atGrade n 1 v in
+    map-take (coef n a) n (drop 1 (order n)) ∙ ap (take n) (map-drop (coef n a) 1 (order n))
+    ∙ rw (all-back n a (length-grade-set n 1 v (vector-fits n))) (rw (size-one n, start-one n) at (grade-back n 1 v (size-one n)))
+
+-- where each mask of a list has its number of a half set, those of that parity have the numbers that were given
+module _ (odd : ℕ) (f : ℕ → Float) where
+  abbrev Back : List ℕ → Type 0
+  Back ms = (v : List Float) → length v ≡ length (choose odd ms) → map f ms ≡ spread odd ms v → map f (choose odd ms) ≡ v
+
+  given-has : (m : ℕ) (ms : List ℕ) (v : List Float) → ones m % 2 ≡ odd → Back ms → length v ≡ suc (length (choose odd ms)) → f m ∷ map f ms ≡ spread odd (m ∷ ms) v → f m ∷ map f (choose odd ms) ≡ v
+  given-has m ms [] p ih l e = absurd (omega arith)
+  given-has m ms (x ∷ v) p ih l e =
+      let q : f m ∷ map f ms ≡ x ∷ spread odd ms v = e ∙ spread-has odd m ms x v p in
+      let r : map f (choose odd ms) ≡ v = ih v (omega arith) (cc) in
+      cc
+
+  given-back : (ms : List ℕ) → Back ms
+  unfolding choose
+  given-back [] [] l e = refl
+  given-back [] (x ∷ v) l e = absurd (omega arith)
+  given-back (m ∷ ms) v l e =
+      elim (ℕ-discrete (ones m % 2) odd) [
+        | yes p ↦ rw (choose-has odd m ms p) (given-has m ms v p (given-back ms) (l ∙ ap length (choose-has odd m ms p)) e)
+        | no p ↦
+            let q : f m ∷ map f ms ≡ nought ∷ spread odd ms v = e ∙ spread-lacks odd m ms v p in
+            rw (choose-lacks odd m ms p) (given-back ms v (l ∙ ap length (choose-lacks odd m ms p)) (cc))
+      ]
+
+pub half-back : (odd d : ℕ) (v : List Float) → odd ≤ 1 → 2 * length v ≡ 2 ^ d → map (coef d (spread odd (order d) v)) (choose odd (order d)) ≡ v
+half-back odd d v o e =
+    let a : List Float = spread odd (order d) v in
+    given-back odd (coef d a) (order d) v (omega (arith, half-twice odd d o (half-some d (length v) e))) (all-back d a (length-half-set odd d v))
+
+-- the masks of the other parity have +0
+spread-other : (odd : ℕ) (ms : List ℕ) (v : List Float) (k : ℕ) → k < length ms → (ones (getD ms k 0) % 2 ≡ odd → ⊥) → getD (spread odd ms v) k nan ≡ nought
+unfolding spread
+spread-other odd [] v k l p = absurd (omega arith)
+spread-other odd (m ∷ ms) v zero l p = rw (spread-lacks odd m ms v p)
+spread-other odd (m ∷ ms) [] (suc k) l p = spread-other odd ms [] k (omega arith) p
+spread-other odd (m ∷ ms) (x ∷ v) (suc k) l p =
+    go (ofParity odd m) (spread-other odd ms v k (omega arith) p) (spread-other odd ms (x ∷ v) k (omega arith) p)
+  where
+    go : (b : Bool) → getD (spread odd ms v) k nan ≡ nought → getD (spread odd ms (x ∷ v)) k nan ≡ nought → getD (cond b (x ∷ spread odd ms v) (nought ∷ spread odd ms (x ∷ v))) (suc k) nan ≡ nought
+    go true y z = y
+    go false y z = z
+
+pub half-other : (odd d m : ℕ) (v : List Float) → m < 2 ^ d → (ones m % 2 ≡ odd → ⊥) → coef d (spread odd (order d) v) m ≡ nought
+half-other odd d m v h p =
+    coef-inside d m (spread odd (order d) v) h
+    ∙ spread-other odd (order d) v (place d m) (omega (arith, place-lt d m h, length-order d)) (rw (order-place d m h) p)
+
+-- one grade of a value whose numbers stand there
+pub part-back : (d g : ℕ) (v : List Float) (f : Flavor) → d ≤ 9 → g ≤ d → size d g ≡ length v → gradePart (shapeOf d f) g (atGrade d g v) ≡ v
+part-back d g v f h l e =
+    part-taken (shapeOf d f) (atGrade d g v) h (length-grade-set d g v (grade-fits d g (length v) l e)) g l ∙ grade-back d g v e
+
+length-one : (d g : ℕ) (x : Float) → g ≤ d → size d g ≡ 1 → length (atGrade d g (x ∷ [])) ≡ 2 ^ d
+length-one d g x l e = length-grade-set d g (x ∷ []) (grade-fits d g 1 l e)
+
+-- the one number of a grade, at its mask
+pub single-back : (d g m : ℕ) (x : Float) → m < 2 ^ d → ones m ≡ g → size d g ≡ 1 → coef d (atGrade d g (x ∷ [])) m ≡ x
+unfolding atGrade place
+single-back d g m x h e s =
+    let r : rank d g m ≡ 0 = omega (arith, grade-has d g m h e .inside) in
+    coef-inside d m (atGrade d g (x ∷ [])) h ∙ padded-at (start d g) (x ∷ []) (2 ^ d) (place d m) 0 (rw (e, r)) (omega arith)
+
+pub scalar-back : (d : ℕ) (x : Float) → coef d (atGrade d 0 (x ∷ [])) 0 ≡ x
+unfolding ones onesIn
+scalar-back d x = single-back d 0 0 x (pow-pos d) refl (size-zero d)
+
+pub pseudoscalar-back : (d : ℕ) (x : Float) → coef d (atGrade d d (x ∷ [])) (2 ^ d - 1) ≡ x
+pseudoscalar-back d x = single-back d d (2 ^ d - 1) x (ones-lt d) (ones-ones d) (size-last d)
+
+-- ---- no dimensions
+
+-- at 0 dimensions that are stated, the scalar
+pub stated-none : (s : Shape) (a : List Float) (odd into : ℕ) → s .dims ≤ 9 → length a ≡ 2 ^ s .dims → 1 ≤ into → unpackHalf odd s 0 a into ≡ listed (coef (s .dims) a 0 ∷ [])
+stated-none s a odd into h e m =
+    half-unpacked s a h e odd 0 0 into (omega arith) m ∙ rw (lone-mask odd 0 0 refl)
+
+one-number : (x : Float) → coef 0 (x ∷ []) 0 ≡ x
+unfolding coef place start rank ones onesIn
+one-number x = refl
+
+-- at 0 dimensions of its own, the scalar for even, and 0 for odd
+module _ (f : Flavor) (x : Float) (into : ℕ) (m : 1 ≤ into) where
+  pub own-even-none : unpackOwnHalf 0 (shapeOf 0 f) (x ∷ []) into ≡ listed (x ∷ [])
+  own-even-none = stated-none (shapeOf 0 f) (x ∷ []) 0 into (omega arith) refl m ∙ ap (λ y. listed (y ∷ [])) (one-number x)
+
+  pub own-odd-none : unpackOwnHalf 1 (shapeOf 0 f) (x ∷ []) into ≡ listed (nought ∷ [])
+  own-odd-none = half-unpacked (shapeOf 0 f) (x ∷ []) (omega arith) refl 1 1 0 into (omega arith) m ∙ rw (lone-mask 1 1 0 refl, coef-outside 0 1 (x ∷ []) (omega arith))
+
+-- ---- what was built is read back: the outcomes of calls that are not refused
+
+module _ (v : List Float) (f : Flavor) (room : ℕ) (h : length v ≤ 9) (l : 2 ^ length v ≤ room) where
+  pub vector-round : (into : ℕ) → length v ≤ into → unpackVector (vector v f room .shape) (vector v f room .coefs) into ≡ listed v
+  vector-round into m =
+      rw (vector-built v f room h l)
+      (vector-unpacked (shapeOf (length v) f) (atGrade (length v) 1 v) h (length-grade-set (length v) 1 v (vector-fits (length v))) into m ∙ ap listed (vector-back v))
+
+  pub n1-round : 2 ≤ length v → gradePart (n1Blades v f room .shape) (length v - 1) (n1Blades v f room .coefs) ≡ v
+  n1-round m =
+      rw (n1-built v f room h l m) (part-back (length v) (length v - 1) v f h (omega arith) (size-before-last (length v) (omega arith)))
+
+module _ (d : ℕ) (x : Float) (f : Flavor) (room : ℕ) (h : d + addedDims f ≤ 9) (l : 2 ^ (d + addedDims f) ≤ room) where
+  abbrev n : ℕ
+  n = d + addedDims f
+
+  pub scalar-round : getBlade (scalar d x f room .shape) 0 (scalar d x f room .coefs) ≡ record { number = 0; value = x }
+  scalar-round =
+      rw (scalar-built d x f room h l) (get-blade-done (shapeOf n f) 0 (atGrade n 0 (x ∷ [])) (record { small = h; counted = length-one n 0 x (omega arith) (size-zero n) }) ∙ rw (scalar-back n x))
+
+  -- at 0 dimensions that are stated, the scalar
+  pub scalar-unpacked : (odd into : ℕ) → 1 ≤ into → unpackHalf odd (scalar d x f room .shape) 0 (scalar d x f room .coefs) into ≡ listed (x ∷ [])
+  scalar-unpacked odd into m =
+      rw (scalar-built d x f room h l)
+      (stated-none (shapeOf n f) (atGrade n 0 (x ∷ [])) odd into h (length-one n 0 x (omega arith) (size-zero n)) m ∙ rw (scalar-back n x))
+
+  pub scalar-part : gradePart (scalar d x f room .shape) 0 (scalar d x f room .coefs) ≡ x ∷ []
+  scalar-part = rw (scalar-built d x f room h l) (part-back n 0 (x ∷ []) f h (omega arith) (size-zero n))
+
+  pub pseudoscalar-round : getBlade (pseudoscalar d x f room .shape) (2 ^ n - 1) (pseudoscalar d x f room .coefs) ≡ record { number = 0; value = x }
+  pseudoscalar-round =
+      rw (pseudoscalar-built d x f room h l)
+      (get-blade-done (shapeOf n f) (2 ^ n - 1) (atGrade n n (x ∷ [])) (record { small = h; counted = length-one n n x (omega arith) (size-last n) }) ∙ rw (pseudoscalar-back n x))
+
+  pub pseudoscalar-part : gradePart (pseudoscalar d x f room .shape) n (pseudoscalar d x f room .coefs) ≡ x ∷ []
+  pseudoscalar-part = rw (pseudoscalar-built d x f room h l) (part-back n n (x ∷ []) f h (omega arith) (size-last n))
+
+-- blades on the left (0), with even unpacking, and on the right (1), with odd unpacking
+module _ (odd d : ℕ) (v : List Float) (f : Flavor) (room : ℕ) (h : d ≤ 9) (l : 2 ^ d ≤ room) where
+  abbrev built : Outcome
+  built = bladesOf odd d v f room
+
+  pub full-round : (into : ℕ) → length v ≡ 2 ^ d → 2 ^ d ≤ into → unpackAll (built .shape) d (built .coefs) into ≡ listed v
+  full-round into e m =
+      rw (full-built odd d v f room h l e) (all-unpacked (shapeOf d Vanilla) v h e d into h m ∙ ap listed (all-back d v e))
+
+  module _ (o : odd ≤ 1) (e : 2 * length v ≡ 2 ^ d) (into : ℕ) (m : 2 ^ (d - 1) ≤ into) where
+    read-back : (lone : ℕ) → halfOf odd lone d d (spread odd (order d) v) into ≡ listed v
+    read-back lone =
+        half-unpacked (shapeOf d f) (spread odd (order d) v) h (length-half-set odd d v) odd lone d into h m
+        ∙ rw (half-masks odd lone d (λ z. omega (arith, half-some d (length v) e)), half-back odd d v o e)
+
+    -- at stated dimensions, and at its own
+    pub half-round : unpackHalf odd (built .shape) d (built .coefs) into ≡ listed v
+    half-round = rw (half-built odd d v f room h l e) (read-back 0)
+
+    pub own-half-round : unpackOwnHalf odd (built .shape) (built .coefs) into ≡ listed v
+    own-half-round = rw (half-built odd d v f room h l e) (read-back odd)
+
+  pub grade-round : (g : ℕ) → packing odd d (length v) ≡ Grade g → gradePart (built .shape) g (built .coefs) ≡ v
+  grade-round g e =
+      let p : (g ≤ d) × (size d g ≡ length v) = subst (λ q. Packs q d (length v)) e (packing-fits d (length v) odd) in
+      rw (grade-built odd d v f room h l g e) (part-back d g v f h (p .0) (p .1))

@@ -1,0 +1,40 @@
+-- `masks::shape::Shape::get_blade` meets its contract: what is not refused is read by `coefficient`. Assumes nothing.
+use mathlib.Core.Path.{sym, _∙_}
+use mathlib.Core.List.{[]}
+use borrow.Author.Needs.{needs}
+use lib.Ieee.{ofBits, ofFields}
+use lib.ListN.{length}
+use Rattle.masks.specs.Shapes.{getBlade, refusedNumber}
+use Rattle.masks.proofs.RefusalLaws.{unless-refused, unless-done}
+use Rattle.masks.proofs.ShapeLaws.{holds-places}
+use Rattle.masks.proofs.BladeLaws.{Valued, valued}
+use Rattle.masks.proofs.shape.Shape.get_blade.Statement.{statement}
+use Rattle.masks.proofs.shape.Shape.get_blade.Tie as tie
+
+value-refusal-requires : tie.Need-value-refusal-requires
+value-refusal-requires c κs = search needs
+
+returns : tie.Need-returns
+unfolding getBlade ofBits ofFields
+returns c = sym (unless-refused refusedNumber _ _ _ (c .before .value-refusal .ensures) (c .if1 .taken))
+
+order-of-requires : tie.Need-order-of-requires
+order-of-requires c κs = search needs
+
+coefficient-requires : tie.Need-coefficient-requires
+coefficient-requires c κs =
+    let i = c .before .before .before in
+    let s = i .before .before .before .args in
+    let v : Valued (s .self .dims) (length (s .a .now)) = valued _ _ [] (sym (i .before .value-refusal .ensures) ∙ i .if1 .left) .0 in
+    (v .small, holds-places _ (s .self .dims) (v .small) (c .before .before .order-of .ensures), v .counted)
+
+returns-2 : tie.Need-returns-2
+unfolding getBlade
+returns-2 c =
+    let i = c .before .before .before .before in
+    rw (c .coefficient .ensures) (sym (unless-done refusedNumber _ _ _ (i .before .value-refusal .ensures) (i .if1 .left)))
+
+pub get-blade-spec : {M : Type 1} → statement M
+get-blade-spec =
+    tie.close
+    (tie.spec value-refusal-requires returns order-of-requires coefficient-requires returns-2)

@@ -1,0 +1,71 @@
+-- `masks::shape::Shape::unpack_vector` meets its contract: the coefficients of the masks of grade 1 are gathered. Assumes nothing.
+use mathlib.Core.Path.{sym, _∙_}
+use native.Mathlib.Omega.{arith}
+use borrow.Author.Needs.{needs}
+use lib.Dec.{lit≤}
+use lib.ListN.{length, take, drop}
+use Rattle.masks.specs.Order.{order}
+use Rattle.masks.specs.Shapes.{coef}
+use Rattle.masks.specs.Unpack.{unpackVector}
+use Rattle.masks.proofs.RefusalLaws.{Taken, taken, writes-refused, writes-done}
+use Rattle.masks.proofs.ShapeLaws.{holds-masks, holds-places}
+use Rattle.masks.proofs.UnpackLaws.{vector-read, vector-length, counts}
+use Rattle.masks.proofs.shape.Shape.unpack_vector.Statement.{statement}
+use Rattle.masks.proofs.shape.Shape.unpack_vector.Tie as tie
+
+cast-needed : tie.Need-cast-needed
+cast-needed c = search needs
+
+refusal-of-requires : tie.Need-refusal-of-requires
+refusal-of-requires c κs = search needs
+
+none-requires : tie.Need-none-requires
+none-requires c κs = search needs
+
+returns : tie.Need-returns
+unfolding unpackVector
+returns c = writes-refused _ _ _ _ _ (c .before .before .refusal-of .ensures) (c .before .if1 .taken) (c .none .ensures)
+
+abbrev s : tie.Else1 → tie.Start
+s c = c .before .before .before .before
+
+-- the call is not refused
+ok : (c : tie.Else1) → Taken (s c .args .self .dims) (s c .args .self .dims) (length (s c .args .a .now)) (length (s c .args .out .now)) (s c .args .self .dims)
+ok c = taken _ _ _ _ _ (sym (c .before .refusal-of .ensures) ∙ c .if1 .left)
+
+order-of-requires : tie.Need-order-of-requires
+order-of-requires c κs = search needs
+
+gather-requires : tie.Need-gather-requires
+gather-requires c κs =
+    let o = c .before .before .before .before in
+    let a = s (o .before) .args in
+    let t = ok (o .before) in
+    ((t .small, holds-places _ (a .self .dims) (t .small) (o .order-of .ensures), t .counted), (omega (arith, t .small), omega (arith, t .roomy)))
+
+same-length : tie.Need-same-length
+same-length c = search needs
+
+returns-2 : tie.Need-returns-2
+unfolding unpackVector
+returns-2 c =
+    let o = c .before .before .before .before .before .before .before in
+    let e = o .before in
+    let a = s e .args in
+    let t = ok e in
+    writes-done _ _ _ _ _ _ (e .before .refusal-of .ensures) (e .if1 .left) (counts (a .self .dims) (coef (a .self .dims) (a .a .now)) (take (a .self .dims) (drop 1 (order (a .self .dims)))) (sym (vector-length (a .self .dims))))
+    (vector-read 1024 (a .self .dims) (a .a .now) (lit≤ tt) (a .self .dims) (o .order-of .result .masks) (t .small) (holds-masks _ (a .self .dims) (t .small) (o .order-of .ensures)) (a .out .now) _
+    (c .before .before .gather .ensures))
+
+pub unpack-vector-spec : {M : Type 1} → statement M
+unpack-vector-spec =
+    tie.close
+    (tie.spec
+    cast-needed
+    refusal-of-requires
+    none-requires
+    returns
+    order-of-requires
+    gather-requires
+    same-length
+    returns-2)

@@ -1,0 +1,36 @@
+-- `masks::text::first_part` meets its contract: the separators are dropped, and the part is taken. Assumes nothing.
+use mathlib.Core.Path.{_∙_}
+use borrow.Author.Needs.{needs}
+use Rattle.masks.specs.Text.{part}
+use Rattle.masks.proofs.text.first_part.Statement.{statement}
+use Rattle.masks.proofs.text.first_part.Tie as tie
+
+skip-separators-requires : tie.Need-skip-separators-requires
+skip-separators-requires c κs = search needs
+
+skip-part-requires : tie.Need-skip-part-requires
+skip-part-requires c κs = search needs
+
+sub-result : tie.Need-sub-result
+sub-result c = search needs
+
+part-result-start : tie.Need-part-result-start
+part-result-start c = search needs
+
+part-result-end : tie.Need-part-result-end
+part-result-end c = search needs
+
+returns : tie.Need-returns
+unfolding part
+returns c = c .before .skip-part .ensures .3 ∙ (rw (c .before .before .skip-separators .ensures .2))
+
+pub first-part-spec : {M : Type 1} → statement M
+first-part-spec =
+    tie.close
+    (tie.spec
+    skip-separators-requires
+    skip-part-requires
+    sub-result
+    part-result-start
+    part-result-end
+    returns)

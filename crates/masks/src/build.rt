@@ -1,0 +1,261 @@
+// Building values from few numbers.
+use super::flavor::Flavor;
+use super::gather::copy_all;
+use super::order::blade_count;
+use super::order::blades;
+use super::order::order_of;
+use super::order::size_of;
+use super::order::start_of;
+use super::outcome::Answer;
+use super::outcome::DONE;
+use super::outcome::MAX_DIMS;
+use super::outcome::NO_ROOM;
+use super::outcome::TOO_MANY_DIMS;
+use super::outcome::WRONG_COUNT;
+use super::outcome::done;
+use super::outcome::refused;
+use super::outcome::shape_of;
+ghost use mathlib.Core.Path.{_≡_};
+ghost use mathlib.Core.Bool.{cond};
+ghost use mathlib.Core.List.{[], _∷_};
+ghost use Prim.Native.Nat.{ℕ, _+_, _-_, _*_, _≤_, _<_, _^_};
+ghost use lib.Dec.{eqb, ltb};
+ghost use lib.Ieee.{nan};
+ghost use lib.ListN.{length, take, getD};
+ghost use Rattle.masks.specs.Order.{size, start, order, masksOf};
+ghost use Rattle.masks.specs.Outcome.{Gives, refusal, tooMany, noRoom, laid, answerOf};
+ghost use Rattle.masks.specs.Flavors.{addedDims};
+ghost use Rattle.masks.specs.Unpack.{choose};
+ghost use Rattle.masks.specs.Build.{padded, atGrade, builtRefusal, vector, n1Blades, scalar, pseudoscalar, firstGrade, sideStart, sideEnd, packing, spread, packed, bladesOf};
+
+// How some numbers fill a value.
+pub enum Packing {
+    Full,
+    Half,
+    Grade(u8),
+    Nothing,
+}
+
+// The number at place k where v stands from the place `first` on, and +0 elsewhere.
+fn number_within(first: usize, v: &[f64], k: usize) -> f64
+    ensures { λ r. ⌜ ((n : ℕ) → first + length (now (v .entry)) ≤ n → k < n → r ≡ getD (padded first (now (v .entry)) n) k nan) ⌝ }
+{
+    if first <= k {
+        let i = k - first;
+        if i < v.len() {
+            return v[i];
+        }
+    }
+    0.0
+}
+
+// The numbers of v from the place `first` on, and +0 in the other of n places.
+fn pad(first: usize, v: &[f64], n: usize, out: &mut [f64])
+    requires { ⌜ (first + length (now v) ≤ n) × (n ≤ length (now out)) ⌝ }
+    ensures { λ _. ⌜ now (out .exit) ≡ laid (padded first (now (v .entry)) n) (now (out .entry)) ⌝ }
+{
+    let mut k: usize = 0;
+    while k < n {
+        out[k] = number_within(first, v, k);
+        k += 1;
+    }
+}
+
+// The numbers of one grade, and +0 in the others.
+fn fill_grade(dims: u8, grade: u8, v: &[f64], out: &mut [f64])
+    requires { ⌜ (dims ≤ 9) × (grade ≤ dims + 1) × (start dims grade + length (now v) ≤ 2 ^ dims) × (2 ^ dims ≤ length (now out)) ⌝ }
+    ensures { λ _. ⌜ now (out .exit) ≡ laid (atGrade dims grade (now (v .entry))) (now (out .entry)) ⌝ }
+{
+    pad(start_of(dims, grade), v, blades(dims), out);
+}
+
+// The number that building a value of some dimensions is refused with, or 0.
+fn built_refusal(dims: usize, room: usize) -> u8
+    ensures { λ r. ⌜ r ≡ builtRefusal dims room ⌝ }
+{
+    if (MAX_DIMS as usize) < dims {
+        return TOO_MANY_DIMS;
+    }
+    if room < blade_count(dims as u8) {
+        return NO_ROOM;
+    }
+    DONE
+}
+
+// A value whose vector is v.
+pub fn vector(v: &[f64], flavor: Flavor, out: &mut [f64]) -> Answer
+    ensures { λ r. ⌜ Gives (vector (now (v .entry)) flavor (length (now (out .entry)))) r (now (out .entry)) (now (out .exit)) ⌝ }
+{
+    let no = built_refusal(v.len(), out.len());
+    if no != DONE {
+        return refused(no);
+    }
+    let dims = v.len() as u8;
+    fill_grade(dims, 1, v, out);
+    done(shape_of(dims, flavor))
+}
+
+// A value whose grade below the last is v.
+pub fn n_1_blades(v: &[f64], flavor: Flavor, out: &mut [f64]) -> Answer
+    ensures { λ r. ⌜ Gives (n1Blades (now (v .entry)) flavor (length (now (out .entry)))) r (now (out .entry)) (now (out .exit)) ⌝ }
+{
+    let n = v.len();
+    if n < 2 {
+        return refused(WRONG_COUNT);
+    }
+    let no = built_refusal(n, out.len());
+    if no != DONE {
+        return refused(no);
+    }
+    let dims = n as u8;
+    fill_grade(dims, dims - 1, v, out);
+    done(shape_of(dims, flavor))
+}
+
+// The dimensions of a value of a flavor that is built at `dims`: 10 where they are above 9.
+fn built_dims(dims: u8, flavor: Flavor) -> u8
+    ensures { λ r. ⌜ r ≡ cond (ltb 9 dims) 10 (dims + addedDims flavor) ⌝ }
+{
+    if MAX_DIMS < dims {
+        return 10;
+    }
+    dims + flavor.added_dims()
+}
+
+// A scalar, with a dimension more under Projective.
+pub fn scalar(dims: u8, x: f64, flavor: Flavor, out: &mut [f64]) -> Answer
+    ensures { λ r. ⌜ Gives (scalar dims x flavor (length (now (out .entry)))) r (now (out .entry)) (now (out .exit)) ⌝ }
+{
+    let n = built_dims(dims, flavor);
+    let no = built_refusal(n as usize, out.len());
+    if no != DONE {
+        return refused(no);
+    }
+    let v = [x];
+    fill_grade(n, 0, &v, out);
+    done(shape_of(n, flavor))
+}
+
+// A pseudoscalar, with a dimension more under Projective.
+pub fn pseudoscalar(dims: u8, x: f64, flavor: Flavor, out: &mut [f64]) -> Answer
+    ensures { λ r. ⌜ Gives (pseudoscalar dims x flavor (length (now (out .entry)))) r (now (out .entry)) (now (out .exit)) ⌝ }
+{
+    let n = built_dims(dims, flavor);
+    let no = built_refusal(n as usize, out.len());
+    if no != DONE {
+        return refused(no);
+    }
+    let v = [x];
+    fill_grade(n, n, &v, out);
+    done(shape_of(n, flavor))
+}
+
+// The first grade of n numbers from `from` on and below `end`.
+fn first_grade(dims: u8, n: usize, from: u8, end: u8) -> Packing
+    requires { ⌜ (dims ≤ 9) × (from ≤ end) × (end ≤ dims + 1) ⌝ }
+    ensures { λ r. ⌜ r ≡ firstGrade dims n (end - from) from ⌝ }
+{
+    let mut g = from;
+    while g < end {
+        if size_of(dims, g) == n {
+            return Packing::Grade(g);
+        }
+        g += 1;
+    }
+    Packing::Nothing
+}
+
+// How n numbers fill a value, on the left (0) or on the right (1).
+fn packing_of(odd: u32, dims: u8, n: usize) -> Packing
+    requires { ⌜ dims ≤ 9 ⌝ }
+    ensures { λ r. ⌜ r ≡ packing odd dims n ⌝ }
+{
+    let total = blades(dims);
+    if n == total {
+        return Packing::Full;
+    }
+    if n < total {
+        if 2 * n == total {
+            return Packing::Half;
+        }
+    }
+    if odd == 0 {
+        return first_grade(dims, n, 0, (dims + 2) / 2);
+    }
+    first_grade(dims, n, (dims + 1) / 2, dims + 1)
+}
+
+// Numbers given in turn to the first n masks of one parity, and +0 to the others.
+fn spread_over(odd: u32, n: usize, masks: &[u16; 512], v: &[f64], out: &mut [f64])
+    requires { ⌜ (n ≤ 512) × (length (now v) ≡ length (choose odd (take n (now masks)))) × (n ≤ length (now out)) ⌝ }
+    ensures { λ _. ⌜ now (out .exit) ≡ laid (spread odd (take n (now (masks .entry))) (now (v .entry))) (now (out .entry)) ⌝ }
+{
+    let all = &masks[..];
+    let mut at: usize = 0;
+    let mut k: usize = 0;
+    while k < n {
+        let m = all[k];
+        if u32::count_ones(m as u32) % 2 == odd {
+            out[k] = v[at];
+            at += 1;
+        } else {
+            out[k] = 0.0;
+        }
+        k += 1;
+    }
+}
+
+// A half set of blades.
+fn fill_half(odd: u32, dims: u8, v: &[f64], out: &mut [f64])
+    requires { ⌜ (odd ≤ 1) × (dims ≤ 9) × (2 * length (now v) ≡ 2 ^ dims) × (2 ^ dims ≤ length (now out)) ⌝ }
+    ensures { λ _. ⌜ now (out .exit) ≡ laid (spread odd (order dims) (now (v .entry))) (now (out .entry)) ⌝ }
+{
+    let o = order_of(dims);
+    spread_over(odd, blades(dims), &o.masks, v, out);
+}
+
+// Blades packed on one side.
+fn pack(odd: u32, dims: u8, v: &[f64], flavor: Flavor, out: &mut [f64]) -> Answer
+    requires { ⌜ odd ≤ 1 ⌝ }
+    ensures { λ r. ⌜ Gives (bladesOf odd dims (now (v .entry)) flavor (length (now (out .entry)))) r (now (out .entry)) (now (out .exit)) ⌝ }
+{
+    if MAX_DIMS < dims {
+        return refused(TOO_MANY_DIMS);
+    }
+    let p = packing_of(odd, dims, v.len());
+    if let Packing::Nothing = p {
+        return refused(WRONG_COUNT);
+    }
+    if out.len() < blades(dims) {
+        return refused(NO_ROOM);
+    }
+    match p {
+        Packing::Full => {
+            copy_all(v, out);
+            done(shape_of(dims, Flavor::Vanilla))
+        }
+        Packing::Half => {
+            fill_half(odd, dims, v, out);
+            done(shape_of(dims, flavor))
+        }
+        Packing::Grade(g) => {
+            fill_grade(dims, g, v, out);
+            done(shape_of(dims, flavor))
+        }
+        Packing::Nothing => refused(WRONG_COUNT),
+    }
+}
+
+// A value from all of its blades, the even ones, or a low grade.
+pub fn blades_left(dims: u8, v: &[f64], flavor: Flavor, out: &mut [f64]) -> Answer
+    ensures { λ r. ⌜ Gives (bladesOf 0 dims (now (v .entry)) flavor (length (now (out .entry)))) r (now (out .entry)) (now (out .exit)) ⌝ }
+{
+    pack(0, dims, v, flavor, out)
+}
+
+// A value from all of its blades, the odd ones, or a high grade.
+pub fn blades_right(dims: u8, v: &[f64], flavor: Flavor, out: &mut [f64]) -> Answer
+    ensures { λ r. ⌜ Gives (bladesOf 1 dims (now (v .entry)) flavor (length (now (out .entry)))) r (now (out .entry)) (now (out .exit)) ⌝ }
+{
+    pack(1, dims, v, flavor, out)
+}

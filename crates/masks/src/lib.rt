@@ -1,0 +1,10 @@
+// Grades, masks, flavors and their text; shapes and their changes; building and unpacking: the lowest layer of the chain.
+pub mod blade;
+pub mod build;
+pub mod flavor;
+mod gather;
+pub mod order;
+pub mod outcome;
+pub mod shape;
+pub mod text;
+pub mod unpack;

@@ -1,0 +1,213 @@
+// Shapes and their changes.
+use super::flavor::Flavor;
+use super::gather::conform_one;
+use super::gather::promote_by;
+use super::gather::resize;
+use super::order::blade_count;
+use super::outcome::Answer;
+use super::outcome::Answers;
+use super::outcome::DONE;
+use super::outcome::MAX_DIMS;
+use super::outcome::NO_ROOM;
+use super::outcome::TOO_MANY_DIMS;
+use super::outcome::WRONG_COUNT;
+use super::outcome::done;
+use super::outcome::refusal_of;
+use super::outcome::refused;
+use super::outcome::refused_pair;
+ghost use mathlib.Core.Path.{_≡_};
+ghost use mathlib.Core.List.{[], _∷_};
+ghost use Prim.Native.Nat.{_+_, _≤_, _^_, max};
+ghost use lib.ListN.{length};
+ghost use Rattle.masks.specs.Outcome.{Gives, GivesBoth, refusal, tooMany, wrongCount, noRoom};
+ghost use Rattle.masks.specs.Shapes.{withDims, withFlavor, promotes, conformedShape, setDims, setFlavor, conformTo, conform};
+
+pub struct Shape {
+    pub dims: u8,
+    pub flavor: Flavor,
+}
+
+// The dimensions that a change from one flavor to another adds.
+pub(crate) fn promotion(f: Flavor, g: Flavor) -> u8
+    ensures { λ r. ⌜ r ≡ promotes f g ⌝ }
+{
+    match f {
+        Flavor::Vanilla => match g {
+            Flavor::Vanilla => 0,
+            Flavor::Projective => 1,
+            Flavor::Cl(_, _, _) => 0,
+        },
+        Flavor::Projective => 0,
+        Flavor::Cl(_, _, _) => 0,
+    }
+}
+
+pub(crate) fn larger(a: u8, b: u8) -> u8
+    ensures { λ r. ⌜ r ≡ max a b ⌝ }
+{
+    if a < b { b } else { a }
+}
+
+// The number that conforming two values to `result` dimensions is refused with, or 0.
+fn conform_refusal(
+    dims: u8,
+    other: u8,
+    result: u8,
+    count: usize,
+    count_right: usize,
+    room: usize,
+    room_right: usize,
+) -> u8
+    ensures { λ r. ⌜ r ≡ refusal (tooMany dims ∷ tooMany other ∷ tooMany result ∷ wrongCount count dims ∷ wrongCount «count_right» other ∷ noRoom room (2 ^ result) ∷ noRoom «room_right» (2 ^ result) ∷ []) ⌝ }
+{
+    if MAX_DIMS < dims {
+        return TOO_MANY_DIMS;
+    }
+    if MAX_DIMS < other {
+        return TOO_MANY_DIMS;
+    }
+    if MAX_DIMS < result {
+        return TOO_MANY_DIMS;
+    }
+    if count != blade_count(dims) {
+        return WRONG_COUNT;
+    }
+    if count_right != blade_count(other) {
+        return WRONG_COUNT;
+    }
+    if room < blade_count(result) {
+        return NO_ROOM;
+    }
+    if room_right < blade_count(result) {
+        return NO_ROOM;
+    }
+    DONE
+}
+
+impl Shape {
+    pub(crate) fn with_dims(self, dims: u8) -> Shape
+        ensures { λ r. ⌜ r ≡ withDims self dims ⌝ }
+    {
+        let flavor = self.flavor;
+        Shape { dims, flavor }
+    }
+
+    pub(crate) fn with_flavor(self, flavor: Flavor) -> Shape
+        ensures { λ r. ⌜ r ≡ withFlavor self flavor ⌝ }
+    {
+        Shape {
+            dims: self.dims,
+            flavor,
+        }
+    }
+
+    // The shape after conforming: promoted where `up` is 1, with other dimensions.
+    fn conformed(self, up: u8, dims: u8) -> Shape
+        ensures { λ r. ⌜ r ≡ conformedShape up self dims ⌝ }
+    {
+        let grown = self.with_dims(dims);
+        if up == 0 {
+            return grown;
+        }
+        grown.with_flavor(Flavor::Projective)
+    }
+
+    // The value at `new_dims` dimensions.
+    pub fn set_dims(self, new_dims: u8, a: &[f64], out: &mut [f64]) -> Answer
+        ensures { λ r. ⌜ Gives (setDims self «new_dims» (now (a .entry)) (length (now (out .entry)))) r (now (out .entry)) (now (out .exit)) ⌝ }
+    {
+        let dims = self.dims;
+        let no = refusal_of(dims, new_dims, a.len(), out.len(), blade_count(new_dims));
+        if no != DONE {
+            return refused(no);
+        }
+        resize(dims, new_dims, a, out);
+        done(self.with_dims(new_dims))
+    }
+
+    // The value in another flavor: promoted from Vanilla to Projective, else renamed.
+    pub fn set_flavor(self, flavor: Flavor, a: &[f64], out: &mut [f64]) -> Answer
+        ensures { λ r. ⌜ Gives (setFlavor self flavor (now (a .entry)) (length (now (out .entry)))) r (now (out .entry)) (now (out .exit)) ⌝ }
+    {
+        let dims = self.dims;
+        if MAX_DIMS < dims {
+            return refused(TOO_MANY_DIMS);
+        }
+        let own = self.flavor;
+        let up = promotion(own, flavor);
+        let n = dims + up;
+        let no = refusal_of(dims, n, a.len(), out.len(), blade_count(n));
+        if no != DONE {
+            return refused(no);
+        }
+        promote_by(up, dims, a, out);
+        done(self.with_dims(n).with_flavor(flavor))
+    }
+
+    // The value at the flavor and the dimensions of another.
+    pub fn conform_to(self, other: Shape, a: &[f64], out: &mut [f64]) -> Answer
+        ensures { λ r. ⌜ Gives (conformTo self other (now (a .entry)) (length (now (out .entry)))) r (now (out .entry)) (now (out .exit)) ⌝ }
+    {
+        let dims = self.dims;
+        if MAX_DIMS < dims {
+            return refused(TOO_MANY_DIMS);
+        }
+        let own = self.flavor;
+        let theirs = other.flavor;
+        let up = promotion(own, theirs);
+        let n = larger(dims + up, other.dims);
+        let no = refusal_of(dims, n, a.len(), out.len(), blade_count(n));
+        if no != DONE {
+            return refused(no);
+        }
+        conform_one(up, dims, n, a, out);
+        done(self.conformed(up, n))
+    }
+
+    // Both values at the flavor and the dimensions that they meet in.
+    pub fn conform(
+        self,
+        other: Shape,
+        a: &[f64],
+        b: &[f64],
+        out: &mut [f64],
+        out_right: &mut [f64],
+    ) -> Answers
+        ensures { λ r. ⌜ GivesBoth (conform self other (now (a .entry)) (now (b .entry)) (length (now (out .entry))) (length (now («out_right» .entry)))) r (now (out .entry)) (now (out .exit)) (now («out_right» .entry)) (now («out_right» .exit)) ⌝ }
+    {
+        let dims = self.dims;
+        let dims_right = other.dims;
+        if MAX_DIMS < dims {
+            return refused_pair(TOO_MANY_DIMS);
+        }
+        if MAX_DIMS < dims_right {
+            return refused_pair(TOO_MANY_DIMS);
+        }
+        let own = self.flavor;
+        let theirs = other.flavor;
+        let up = promotion(own, theirs);
+        let up_right = promotion(theirs, own);
+        let n = larger(dims + up, dims_right + up_right);
+        let no = conform_refusal(
+            dims,
+            dims_right,
+            n,
+            a.len(),
+            b.len(),
+            out.len(),
+            out_right.len(),
+        );
+        if no != DONE {
+            return refused_pair(no);
+        }
+        conform_one(up, dims, n, a, out);
+        conform_one(up_right, dims_right, n, b, out_right);
+        let left = self.conformed(up, n);
+        let right = other.conformed(up_right, n);
+        Answers {
+            number: DONE,
+            left,
+            right,
+        }
+    }
+}

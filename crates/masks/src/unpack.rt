@@ -1,0 +1,162 @@
+// Unpacking a value by mask.
+use super::gather::UNTURNED;
+use super::gather::coefficient;
+use super::gather::gather;
+use super::order::blade_count;
+use super::order::blades;
+use super::order::order_of;
+use super::order::zeros;
+use super::outcome::Count;
+use super::outcome::DONE;
+use super::outcome::MAX_DIMS;
+use super::outcome::refusal_of;
+use super::shape::Shape;
+ghost use mathlib.Core.Path.{_≡_};
+ghost use mathlib.Core.Bool.{cond};
+ghost use mathlib.Core.List.{[], _∷_, map};
+ghost use Prim.Native.Nat.{_+_, _-_, _≤_, _<_, _^_};
+ghost use lib.Dec.{ltb};
+ghost use lib.ListN.{length, take, drop};
+ghost use Rattle.masks.specs.Order.{order, masksOf, placesOf};
+ghost use Rattle.masks.specs.Outcome.{Writes, laid};
+ghost use Rattle.masks.specs.Shapes.{coef, refusedCount};
+ghost use Rattle.masks.specs.Unpack.{choose, halfMasks, halfOf, unpackAll, unpackHalf, unpackOwnHalf, unpackVector};
+
+fn none(number: u8) -> Count
+    ensures { λ r. ⌜ r ≡ refusedCount number ⌝ }
+{
+    Count { number, count: 0 }
+}
+
+// Those of the first n masks that have one parity, from the front of a second array; how many there are.
+fn choose_masks(odd: u32, n: usize, masks: &[u16; 512], to: &mut [u16; 512]) -> usize
+    requires { ⌜ n ≤ 512 ⌝ }
+    ensures { λ r. ⌜ (r ≡ length (choose odd (take n (now (masks .entry))))) × (take r (now (to .exit)) ≡ choose odd (take n (now (masks .entry)))) ⌝ }
+{
+    let all = &masks[..];
+    let room = &mut to[..];
+    let mut end: usize = 0;
+    let mut i: usize = 0;
+    while i < n {
+        let m = all[i];
+        if u32::count_ones(m as u32) % 2 == odd {
+            room[end] = m;
+            end += 1;
+        }
+        i += 1;
+    }
+    end
+}
+
+// How many even or odd blades there are.
+fn half_count(dims: u8) -> usize
+    ensures { λ r. ⌜ r ≡ cond (ltb 9 dims) 0 (2 ^ (dims - 1)) ⌝ }
+{
+    if MAX_DIMS < dims {
+        return 0;
+    }
+    if dims == 0 {
+        return 1;
+    }
+    blades(dims - 1)
+}
+
+// The even (0) or odd (1) blades at d dimensions; where d is 0, the coefficient of the mask `lone`.
+fn half(odd: u32, lone: usize, dims: u8, d: u8, a: &[f64], out: &mut [f64])
+    requires { ⌜ (odd ≤ 1) × (dims ≤ 9) × (d ≤ 9) × (length (now a) ≡ 2 ^ dims) × (2 ^ (d - 1) ≤ length (now out)) ⌝ }
+    ensures { λ _. ⌜ now (out .exit) ≡ laid (map (coef dims (now (a .entry))) (halfMasks odd lone d)) (now (out .entry)) ⌝ }
+{
+    let from = order_of(dims);
+    if d == 0 {
+        out[0] = coefficient(dims, &from.places, a, lone);
+        return;
+    }
+    let to = order_of(d);
+    let mut chosen = zeros();
+    let count = choose_masks(odd, blades(d), &to.masks, &mut chosen);
+    gather(&chosen, 0, count, dims, &from.places, UNTURNED, a, out);
+}
+
+// The even or odd blades of a value, with refusals.
+fn unpack_half(odd: u32, lone: usize, dims: u8, d: u8, a: &[f64], out: &mut [f64]) -> Count
+    requires { ⌜ odd ≤ 1 ⌝ }
+    ensures { λ r. ⌜ Writes (halfOf odd lone dims d (now (a .entry)) (length (now (out .entry)))) r (now (out .entry)) (now (out .exit)) ⌝ }
+{
+    let needed = half_count(d);
+    let no = refusal_of(dims, d, a.len(), out.len(), needed);
+    if no != DONE {
+        return none(no);
+    }
+    half(odd, lone, dims, d, a, out);
+    Count {
+        number: DONE,
+        count: needed,
+    }
+}
+
+impl Shape {
+    // All blades at d dimensions.
+    pub fn unpack_all(self, d: u8, a: &[f64], out: &mut [f64]) -> Count
+        ensures { λ r. ⌜ Writes (unpackAll self d (now (a .entry)) (length (now (out .entry)))) r (now (out .entry)) (now (out .exit)) ⌝ }
+    {
+        let dims = self.dims;
+        let needed = blade_count(d);
+        let no = refusal_of(dims, d, a.len(), out.len(), needed);
+        if no != DONE {
+            return none(no);
+        }
+        let from = order_of(dims);
+        let to = order_of(d);
+        gather(&to.masks, 0, needed, dims, &from.places, UNTURNED, a, out);
+        Count {
+            number: DONE,
+            count: needed,
+        }
+    }
+
+    // The even blades at d dimensions.
+    pub fn unpack_even(self, d: u8, a: &[f64], out: &mut [f64]) -> Count
+        ensures { λ r. ⌜ Writes (unpackHalf 0 self d (now (a .entry)) (length (now (out .entry)))) r (now (out .entry)) (now (out .exit)) ⌝ }
+    {
+        unpack_half(0, 0, self.dims, d, a, out)
+    }
+
+    // The odd blades at d dimensions.
+    pub fn unpack_odd(self, d: u8, a: &[f64], out: &mut [f64]) -> Count
+        ensures { λ r. ⌜ Writes (unpackHalf 1 self d (now (a .entry)) (length (now (out .entry)))) r (now (out .entry)) (now (out .exit)) ⌝ }
+    {
+        unpack_half(1, 0, self.dims, d, a, out)
+    }
+
+    // The even blades at its own dimensions.
+    pub fn unpack_own_even(self, a: &[f64], out: &mut [f64]) -> Count
+        ensures { λ r. ⌜ Writes (unpackOwnHalf 0 self (now (a .entry)) (length (now (out .entry)))) r (now (out .entry)) (now (out .exit)) ⌝ }
+    {
+        unpack_half(0, 0, self.dims, self.dims, a, out)
+    }
+
+    // The odd blades at its own dimensions.
+    pub fn unpack_own_odd(self, a: &[f64], out: &mut [f64]) -> Count
+        ensures { λ r. ⌜ Writes (unpackOwnHalf 1 self (now (a .entry)) (length (now (out .entry)))) r (now (out .entry)) (now (out .exit)) ⌝ }
+    {
+        unpack_half(1, 1, self.dims, self.dims, a, out)
+    }
+
+    // The vector at its own dimensions.
+    pub fn unpack_vector(self, a: &[f64], out: &mut [f64]) -> Count
+        ensures { λ r. ⌜ Writes (unpackVector self (now (a .entry)) (length (now (out .entry)))) r (now (out .entry)) (now (out .exit)) ⌝ }
+    {
+        let dims = self.dims;
+        let needed = dims as usize;
+        let no = refusal_of(dims, dims, a.len(), out.len(), needed);
+        if no != DONE {
+            return none(no);
+        }
+        let o = order_of(dims);
+        gather(&o.masks, 1, needed, dims, &o.places, UNTURNED, a, out);
+        Count {
+            number: DONE,
+            count: needed,
+        }
+    }
+}
