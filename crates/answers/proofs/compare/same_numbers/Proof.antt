@@ -1,0 +1,70 @@
+-- `answers::compare::same_numbers` is safe and ends. Assumes nothing.
+use borrow.Author.Needs.{needs}
+use Prim.Native.Nat.{_≤_, _<_, _-_, _^_}
+use Rattle.answers.proofs.compare.same_numbers.Statement.{statement}
+use Rattle.answers.proofs.compare.same_numbers.Tie as tie
+
+abbrev Inv-loop : tie.InvT-loop
+Inv-loop t at have head next₀ i₀ next i = i ≤ 520
+
+abbrev μ-loop : tie.MeasureT-loop
+μ-loop t at have head next₀ i₀ next i = 520 - i
+
+word-at-requires : tie.Need-word-at-requires Inv-loop μ-loop
+word-at-requires c κs = search needs
+
+loop-holds : tie.Need-loop-holds Inv-loop μ-loop
+loop-holds c = search needs
+
+mul-bits-of : tie.Need-mul-bits-of Inv-loop μ-loop
+mul-bits-of c = search needs
+
+element-copy-out-bits-of : tie.Need-element-copy-out-bits-of Inv-loop μ-loop
+element-copy-out-bits-of c = search needs
+
+bits-of-requires : tie.Need-bits-of-requires Inv-loop μ-loop
+bits-of-requires c κs = search needs
+
+word-at-requires-2 : tie.Need-word-at-requires-2 Inv-loop μ-loop
+word-at-requires-2 c κs = search needs
+
+one-nan-requires : tie.Need-one-nan-requires Inv-loop μ-loop
+one-nan-requires c κs = search needs
+
+returns : tie.Need-returns Inv-loop μ-loop
+returns c = search needs
+
+returns-2 : tie.Need-returns-2 Inv-loop μ-loop
+returns-2 c = search needs
+
+add-i : tie.Need-add-i Inv-loop μ-loop
+add-i c = search needs
+
+loop-less : tie.Need-loop-less Inv-loop μ-loop
+loop-less c = search needs
+
+loop-again : tie.Need-loop-again Inv-loop μ-loop
+loop-again c = search needs
+
+returns-3 : tie.Need-returns-3 Inv-loop μ-loop
+returns-3 c = search needs
+
+pub same-numbers-spec : {M : Type 1} → statement M
+same-numbers-spec =
+    tie.close
+    (tie.spec
+    Inv-loop
+    μ-loop
+    word-at-requires
+    loop-holds
+    mul-bits-of
+    element-copy-out-bits-of
+    bits-of-requires
+    word-at-requires-2
+    one-nan-requires
+    returns
+    returns-2
+    add-i
+    loop-less
+    loop-again
+    returns-3)

@@ -1,0 +1,67 @@
+-- `answers::run` is safe and ends: the lines are counted down. Assumes nothing.
+use borrow.Author.Needs.{needs}
+use lib.ListN.{length}
+use mathlib.Core.Path.{_≡_}
+use Rattle.answers.proofs.run.Statement.{statement}
+use Rattle.answers.proofs.run.Tie as tie
+
+abbrev Inv-loop : tie.InvT-loop
+Inv-loop body₀ t₀ left₀ body t left = length body ≡ length body₀
+
+abbrev μ-loop : tie.MeasureT-loop
+μ-loop body₀ t₀ left₀ body t left = left
+
+large-buffer-requires : tie.Need-large-buffer-requires Inv-loop μ-loop
+large-buffer-requires c κs = search needs
+
+slice-aggregate-body : tie.Need-slice-aggregate-body Inv-loop μ-loop
+slice-aggregate-body c = search needs
+
+loop-holds : tie.Need-loop-holds Inv-loop μ-loop
+loop-holds c = search needs
+
+read-line-requires : tie.Need-read-line-requires Inv-loop μ-loop
+read-line-requires c κs = search needs
+
+enum-told : tie.Need-enum-told Inv-loop μ-loop
+enum-told c = search needs
+
+returns : tie.Need-returns Inv-loop μ-loop
+returns c = search needs
+
+enum-known-agrees : tie.Need-enum-known-agrees Inv-loop μ-loop
+enum-known-agrees c = search needs
+
+counted-requires : tie.Need-counted-requires Inv-loop μ-loop
+counted-requires c κs = search needs
+
+sub-left : tie.Need-sub-left Inv-loop μ-loop
+sub-left c = search needs
+
+loop-less : tie.Need-loop-less Inv-loop μ-loop
+loop-less c = search needs
+
+loop-again : tie.Need-loop-again Inv-loop μ-loop
+loop-again c = search needs
+
+returns-2 : tie.Need-returns-2 Inv-loop μ-loop
+returns-2 c = search needs
+
+pub run-spec : {M : Type 1} → statement M
+run-spec =
+    tie.close
+    (tie.spec
+    Inv-loop
+    μ-loop
+    large-buffer-requires
+    slice-aggregate-body
+    loop-holds
+    read-line-requires
+    enum-told
+    returns
+    enum-known-agrees
+    counted-requires
+    sub-left
+    loop-less
+    loop-again
+    returns-2)

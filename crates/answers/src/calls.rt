@@ -1,0 +1,375 @@
+// The calls by their number: what goes in from words and numbers, what comes out as words and in the outputs.
+use masks::build;
+use masks::flavor::Flavor;
+use masks::flavor::Metric;
+use masks::order;
+use masks::outcome::Answer;
+use masks::outcome::Count;
+use masks::shape::Shape;
+
+fn byte(x: u64) -> u8 {
+    (x % 256) as u8
+}
+
+fn flavor_at(kind: u64, p: u64, n: u64, z: u64) -> Flavor {
+    if kind == 0 {
+        return Flavor::Vanilla;
+    }
+    if kind == 1 {
+        return Flavor::Projective;
+    }
+    Flavor::Cl(byte(p), byte(n), byte(z))
+}
+
+// A shape is dims, kind, p, n, z.
+fn shape_in(ins: &[u64; 16]) -> Shape {
+    let flavor = flavor_at(ins[1], ins[2], ins[3], ins[4]);
+    Shape {
+        dims: byte(ins[0]),
+        flavor,
+    }
+}
+
+fn second_shape(ins: &[u64; 16]) -> Shape {
+    let flavor = flavor_at(ins[6], ins[7], ins[8], ins[9]);
+    Shape {
+        dims: byte(ins[5]),
+        flavor,
+    }
+}
+
+// A flavor as words.
+struct Words {
+    kind: u64,
+    p: u64,
+    n: u64,
+    z: u64,
+}
+
+fn words_of(f: Flavor) -> Words {
+    match f {
+        Flavor::Vanilla => Words {
+            kind: 0,
+            p: 0,
+            n: 0,
+            z: 0,
+        },
+        Flavor::Projective => Words {
+            kind: 1,
+            p: 0,
+            n: 0,
+            z: 0,
+        },
+        Flavor::Cl(p, n, z) => Words {
+            kind: 2,
+            p: p as u64,
+            n: n as u64,
+            z: z as u64,
+        },
+    }
+}
+
+fn put_shape(s: Shape, outs: &mut [u64; 16]) {
+    let f = s.flavor;
+    let w = words_of(f);
+    outs[1] = s.dims as u64;
+    outs[2] = w.kind;
+    outs[3] = w.p;
+    outs[4] = w.n;
+    outs[5] = w.z;
+}
+
+fn put_second_shape(s: Shape, outs: &mut [u64; 16]) {
+    let f = s.flavor;
+    let w = words_of(f);
+    outs[6] = s.dims as u64;
+    outs[7] = w.kind;
+    outs[8] = w.p;
+    outs[9] = w.n;
+    outs[10] = w.z;
+}
+
+fn put_answer(r: Answer, outs: &mut [u64; 16]) -> usize {
+    outs[0] = r.number as u64;
+    let s = r.shape;
+    put_shape(s, outs);
+    6
+}
+
+fn put_count(r: Count, outs: &mut [u64; 16]) -> usize {
+    outs[0] = r.number as u64;
+    outs[1] = r.count as u64;
+    2
+}
+
+// Numbers below 2 ^ 16 as an output.
+fn put_masks(masks: &[u16; 512], out: &mut [f64]) {
+    let mut i: usize = 0;
+    while i < 512 {
+        if out.len() <= i {
+            return;
+        }
+        out[i] = masks[i] as f64;
+        i += 1;
+    }
+}
+
+// The bytes of a text as an output, as far as it goes.
+fn put_bytes(bytes: &[u8; 16], out: &mut [f64]) {
+    let mut i: usize = 0;
+    while i < 16 {
+        if out.len() <= i {
+            return;
+        }
+        out[i] = bytes[i] as f64;
+        i += 1;
+    }
+}
+
+// Numbers as an output.
+fn put_numbers(numbers: &[f64], out: &mut [f64]) {
+    let mut i: usize = 0;
+    while i < numbers.len() {
+        if out.len() <= i {
+            return;
+        }
+        out[i] = numbers[i];
+        i += 1;
+    }
+}
+
+fn grade_size(ins: &[u64; 16], outs: &mut [u64; 16]) -> usize {
+    put_count(order::grade_size(byte(ins[0]), byte(ins[1])), outs)
+}
+
+fn blade_count(ins: &[u64; 16], outs: &mut [u64; 16]) -> usize {
+    outs[0] = order::blade_count(byte(ins[0])) as u64;
+    1
+}
+
+fn order_of(ins: &[u64; 16], out: &mut [f64], right: &mut [f64], outs: &mut [u64; 16]) -> usize {
+    let o = order::order_of(byte(ins[0]));
+    put_masks(&o.masks, out);
+    put_masks(&o.places, right);
+    outs[0] = o.dims as u64;
+    1
+}
+
+fn metric(ins: &[u64; 16], outs: &mut [u64; 16]) -> usize {
+    let f = flavor_at(ins[1], ins[2], ins[3], ins[4]);
+    outs[0] = match f.metric(byte(ins[5])) {
+        Metric::Minus => 0,
+        Metric::Zero => 1,
+        Metric::Plus => 2,
+    };
+    1
+}
+
+// The bytes of a text stand one to a word.
+fn try_from_str(ins: &[u64; 16], given: usize, outs: &mut [u64; 16]) -> usize {
+    let mut t = [0u8; 16];
+    let mut i: usize = 0;
+    while i < 16 {
+        t[i] = byte(ins[i]);
+        i += 1;
+    }
+    if 16 < given {
+        return 0;
+    }
+    let r = Flavor::try_from_str(&t[0..given]);
+    let f = r.flavor;
+    let w = words_of(f);
+    outs[0] = r.number as u64;
+    outs[1] = w.kind;
+    outs[2] = w.p;
+    outs[3] = w.n;
+    outs[4] = w.z;
+    5
+}
+
+// The bytes that are there before stand for those past the text.
+fn write_to(ins: &[u64; 16], out: &mut [f64], outs: &mut [u64; 16]) -> usize {
+    let f = flavor_at(ins[1], ins[2], ins[3], ins[4]);
+    let mut t = [7u8; 16];
+    let room = out.len();
+    if 16 < room {
+        return 0;
+    }
+    let r = f.write_to(&mut t[0..room]);
+    put_bytes(&t, out);
+    put_count(r, outs)
+}
+
+fn set_dims(ins: &[u64; 16], a: &[f64], out: &mut [f64], outs: &mut [u64; 16]) -> usize {
+    put_answer(shape_in(ins).set_dims(byte(ins[5]), a, out), outs)
+}
+
+fn set_flavor(ins: &[u64; 16], a: &[f64], out: &mut [f64], outs: &mut [u64; 16]) -> usize {
+    let f = flavor_at(ins[6], ins[7], ins[8], ins[9]);
+    put_answer(shape_in(ins).set_flavor(f, a, out), outs)
+}
+
+fn conform_to(ins: &[u64; 16], a: &[f64], out: &mut [f64], outs: &mut [u64; 16]) -> usize {
+    put_answer(shape_in(ins).conform_to(second_shape(ins), a, out), outs)
+}
+
+fn conform(
+    ins: &[u64; 16],
+    a: &[f64],
+    b: &[f64],
+    out: &mut [f64],
+    right: &mut [f64],
+    outs: &mut [u64; 16],
+) -> usize {
+    let r = shape_in(ins).conform(second_shape(ins), a, b, out, right);
+    outs[0] = r.number as u64;
+    let left = r.left;
+    let right_shape = r.right;
+    put_shape(left, outs);
+    put_second_shape(right_shape, outs);
+    11
+}
+
+fn get_blade(ins: &[u64; 16], a: &[f64], out: &mut [f64], outs: &mut [u64; 16]) -> usize {
+    let r = shape_in(ins).get_blade(ins[5] as usize, a);
+    outs[0] = r.number as u64;
+    if 0 < out.len() {
+        out[0] = r.value;
+    }
+    1
+}
+
+fn set_blade(
+    ins: &[u64; 16],
+    a: &[f64],
+    b: &[f64],
+    out: &mut [f64],
+    outs: &mut [u64; 16],
+) -> usize {
+    if b.len() == 0 {
+        return 0;
+    }
+    put_answer(shape_in(ins).set_blade(ins[5] as usize, b[0], a, out), outs)
+}
+
+fn grade(ins: &[u64; 16], a: &[f64], out: &mut [f64], outs: &mut [u64; 16]) -> usize {
+    let s = shape_in(ins);
+    let g = byte(ins[5]);
+    outs[0] = s.grade_refusal(g, a) as u64;
+    let part = s.grade(g, a);
+    outs[1] = part.len() as u64;
+    put_numbers(part, out);
+    2
+}
+
+fn vector(ins: &[u64; 16], a: &[f64], out: &mut [f64], outs: &mut [u64; 16]) -> usize {
+    let f = flavor_at(ins[1], ins[2], ins[3], ins[4]);
+    put_answer(build::vector(a, f, out), outs)
+}
+
+fn n_1_blades(ins: &[u64; 16], a: &[f64], out: &mut [f64], outs: &mut [u64; 16]) -> usize {
+    let f = flavor_at(ins[1], ins[2], ins[3], ins[4]);
+    put_answer(build::n_1_blades(a, f, out), outs)
+}
+
+fn scalar(ins: &[u64; 16], b: &[f64], out: &mut [f64], outs: &mut [u64; 16]) -> usize {
+    if b.len() == 0 {
+        return 0;
+    }
+    let f = flavor_at(ins[1], ins[2], ins[3], ins[4]);
+    put_answer(build::scalar(byte(ins[0]), b[0], f, out), outs)
+}
+
+fn pseudoscalar(ins: &[u64; 16], b: &[f64], out: &mut [f64], outs: &mut [u64; 16]) -> usize {
+    if b.len() == 0 {
+        return 0;
+    }
+    let f = flavor_at(ins[1], ins[2], ins[3], ins[4]);
+    put_answer(build::pseudoscalar(byte(ins[0]), b[0], f, out), outs)
+}
+
+fn blades_left(ins: &[u64; 16], a: &[f64], out: &mut [f64], outs: &mut [u64; 16]) -> usize {
+    let f = flavor_at(ins[1], ins[2], ins[3], ins[4]);
+    put_answer(build::blades_left(byte(ins[0]), a, f, out), outs)
+}
+
+fn blades_right(ins: &[u64; 16], a: &[f64], out: &mut [f64], outs: &mut [u64; 16]) -> usize {
+    let f = flavor_at(ins[1], ins[2], ins[3], ins[4]);
+    put_answer(build::blades_right(byte(ins[0]), a, f, out), outs)
+}
+
+fn unpack(op: u64, ins: &[u64; 16], a: &[f64], out: &mut [f64], outs: &mut [u64; 16]) -> usize {
+    let s = shape_in(ins);
+    let d = byte(ins[5]);
+    match op {
+        20 => put_count(s.unpack_all(d, a, out), outs),
+        21 => put_count(s.unpack_even(d, a, out), outs),
+        22 => put_count(s.unpack_odd(d, a, out), outs),
+        23 => put_count(s.unpack_own_even(a, out), outs),
+        24 => put_count(s.unpack_own_odd(a, out), outs),
+        _ => put_count(s.unpack_vector(a, out), outs),
+    }
+}
+
+fn make_shaped(
+    op: u64,
+    ins: &[u64; 16],
+    a: &[f64],
+    b: &[f64],
+    out: &mut [f64],
+    right: &mut [f64],
+    outs: &mut [u64; 16],
+) -> usize {
+    match op {
+        7 => set_dims(ins, a, out, outs),
+        8 => set_flavor(ins, a, out, outs),
+        9 => conform_to(ins, a, out, outs),
+        10 => conform(ins, a, b, out, right, outs),
+        11 => get_blade(ins, a, out, outs),
+        12 => set_blade(ins, a, b, out, outs),
+        13 => grade(ins, a, out, outs),
+        _ => unpack(op, ins, a, out, outs),
+    }
+}
+
+fn make_built(
+    op: u64,
+    ins: &[u64; 16],
+    a: &[f64],
+    b: &[f64],
+    out: &mut [f64],
+    outs: &mut [u64; 16],
+) -> usize {
+    match op {
+        14 => vector(ins, a, out, outs),
+        15 => n_1_blades(ins, a, out, outs),
+        16 => scalar(ins, b, out, outs),
+        17 => pseudoscalar(ins, b, out, outs),
+        18 => blades_left(ins, a, out, outs),
+        _ => blades_right(ins, a, out, outs),
+    }
+}
+
+// The call of a number. How many words come out; 0 for no call.
+pub fn make(
+    op: u64,
+    ins: &[u64; 16],
+    given: usize,
+    a: &[f64],
+    b: &[f64],
+    out: &mut [f64],
+    right: &mut [f64],
+    outs: &mut [u64; 16],
+) -> usize {
+    match op {
+        1 => grade_size(ins, outs),
+        2 => blade_count(ins, outs),
+        3 => order_of(ins, out, right, outs),
+        4 => metric(ins, outs),
+        5 => try_from_str(ins, given, outs),
+        6 => write_to(ins, out, outs),
+        14..=19 => make_built(op, ins, a, b, out, outs),
+        7..=13 | 20..=25 => make_shaped(op, ins, a, b, out, right, outs),
+        _ => 0,
+    }
+}

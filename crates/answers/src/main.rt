@@ -1,0 +1,99 @@
+// Replays calls with the Rust's answers, and says how many agree and which is the first that does not. README.md beside
+// this folder's `stdin` says how a call is written and how the list was made.
+mod calls;
+mod compare;
+mod words;
+
+use libc::STDIN_FILENO;
+use libc::STDOUT_FILENO;
+
+// How many calls were read and agree, and the first that does not, counted from 1; 0 while there is none.
+struct Tally {
+    read: u64,
+    agree: u64,
+    first: u64,
+}
+
+fn counted(t: Tally, agrees: bool) -> Tally {
+    let read = std::num::wrapping_add_u64(t.read, 1);
+    if agrees {
+        return Tally {
+            read,
+            agree: std::num::wrapping_add_u64(t.agree, 1),
+            first: t.first,
+        };
+    }
+    if t.first == 0 {
+        return Tally {
+            read,
+            agree: t.agree,
+            first: read,
+        };
+    }
+    Tally {
+        read,
+        agree: t.agree,
+        first: t.first,
+    }
+}
+
+// What one line holds: nothing left, or whether its call agrees.
+enum Line {
+    End,
+    Call(bool),
+}
+
+// One line: the count of its bytes in six hexadecimal digits and a space, then that many bytes.
+fn read_line(body: &mut [u8]) -> Line {
+    let mut head = [0u8; 7];
+    let got = io::read_full(STDIN_FILENO, &mut head);
+    if got < 7 {
+        return Line::End;
+    }
+    let n = words::word_at(&head, 0).value as usize;
+    if body.len() < n {
+        return Line::Call(false);
+    }
+    let have = io::read_full(STDIN_FILENO, &mut body[0..n]);
+    if have < n {
+        return Line::Call(false);
+    }
+    Line::Call(compare::agrees(&body[0..n]))
+}
+
+// A proved loop has to end, so the lines are counted down from a number that no list has.
+fn run() -> Tally {
+    let mut space = io::large_buffer();
+    let body: &mut [u8] = &mut space;
+    let mut t = Tally {
+        read: 0,
+        agree: 0,
+        first: 0,
+    };
+    let mut left: u64 = 0xffff_ffff;
+    while 0 < left {
+        match read_line(body) {
+            Line::End => {
+                return t;
+            }
+            Line::Call(agrees) => {
+                t = counted(t, agrees);
+            }
+        }
+        left -= 1;
+    }
+    t
+}
+
+fn main() {
+    let t = run();
+    io::print_decimal(STDOUT_FILENO, t.agree);
+    io::write_all(STDOUT_FILENO, b" of ");
+    io::print_decimal(STDOUT_FILENO, t.read);
+    io::write_all(STDOUT_FILENO, b" calls agree\n");
+    if t.first != 0 {
+        io::write_all(STDOUT_FILENO, b"the first that does not is call ");
+        io::print_decimal(STDOUT_FILENO, t.first);
+        io::write_all(STDOUT_FILENO, b"\n");
+    }
+}

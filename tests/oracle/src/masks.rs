@@ -1,0 +1,274 @@
+//! The calls of the crate `masks`: the refusals as the project's documents order them, and the Rust's own answers.
+use crate::line::{Answer, Call};
+use std::panic::{AssertUnwindSafe, catch_unwind};
+use uiua::SubSide;
+use uiua_parser::multivector::harness as rust;
+use uiua_parser::*;
+
+pub const GRADE_SIZE: u64 = 1;
+pub const BLADE_COUNT: u64 = 2;
+pub const ORDER_OF: u64 = 3;
+pub const METRIC: u64 = 4;
+pub const TRY_FROM_STR: u64 = 5;
+pub const WRITE_TO: u64 = 6;
+pub const SET_DIMS: u64 = 7;
+pub const SET_FLAVOR: u64 = 8;
+pub const CONFORM_TO: u64 = 9;
+pub const CONFORM: u64 = 10;
+pub const GET_BLADE: u64 = 11;
+pub const SET_BLADE: u64 = 12;
+pub const GRADE: u64 = 13;
+pub const VECTOR: u64 = 14;
+pub const N_1_BLADES: u64 = 15;
+pub const SCALAR: u64 = 16;
+pub const PSEUDOSCALAR: u64 = 17;
+pub const BLADES_LEFT: u64 = 18;
+pub const BLADES_RIGHT: u64 = 19;
+pub const UNPACK_ALL: u64 = 20;
+pub const UNPACK_EVEN: u64 = 21;
+pub const UNPACK_ODD: u64 = 22;
+pub const UNPACK_OWN_EVEN: u64 = 23;
+pub const UNPACK_OWN_ODD: u64 = 24;
+pub const UNPACK_VECTOR: u64 = 25;
+
+/// Every call, in the order of its numbers.
+pub const ALL: std::ops::RangeInclusive<u64> = GRADE_SIZE..=UNPACK_VECTOR;
+
+/// A refusal's number.
+type Given<T> = Result<T, u64>;
+
+fn flavor(w: &[u64]) -> Flavor {
+    match w[0] {
+        0 => Flavor::Vanilla,
+        1 => Flavor::Projective,
+        _ => Flavor::Cl(w[1] as u8, w[2] as u8, w[3] as u8),
+    }
+}
+
+fn flavor_words(f: Flavor) -> [u64; 4] {
+    match f {
+        Flavor::Vanilla => [0, 0, 0, 0],
+        Flavor::Projective => [1, 0, 0, 0],
+        Flavor::Cl(p, n, z) => [2, p as u64, n as u64, z as u64],
+    }
+}
+
+fn shape_words(m: &Multivector) -> Vec<u64> {
+    [vec![m.dims() as u64], flavor_words(m.flavor).to_vec()].concat()
+}
+
+/// The first of some tests that fails gives its number.
+fn unless(fails: bool, number: u64) -> Given<()> {
+    if fails { Err(number) } else { Ok(()) }
+}
+fn dims(d: u64) -> Given<()> {
+    unless(d > 9, 1)
+}
+fn count(list: &[f64], d: u64) -> Given<()> {
+    unless(list.len() != 1 << d, 2)
+}
+fn room(room: usize, needed: usize) -> Given<()> {
+    unless(room < needed, 3)
+}
+
+fn promotes(f: Flavor, g: Flavor) -> u64 {
+    (f == Flavor::Vanilla && g == Flavor::Projective) as u64
+}
+
+/// The Rust's own result; it is not to panic where a call is not refused.
+fn run<T>(f: impl FnOnce() -> T) -> T {
+    catch_unwind(AssertUnwindSafe(f)).expect("the Rust panics where nothing is refused")
+}
+
+fn value(m: Multivector) -> Answer {
+    Answer { words: [vec![0], shape_words(&m)].concat(), out: rust::coefs(&m).to_vec(), right: vec![] }
+}
+
+fn list(v: Vec<f64>) -> Answer {
+    Answer { words: vec![0, v.len() as u64], out: v, right: vec![] }
+}
+
+fn unpacked(c: &Call, d: Option<u64>, side: Option<SubSide>, needed: usize) -> Given<Answer> {
+    let (s, own) = (&c.words[..5], c.words[0]);
+    dims(own)?;
+    dims(d.unwrap_or(own))?;
+    count(&c.a, own)?;
+    room(c.room, needed)?;
+    let m = rust::make(flavor(&s[1..]), &c.a);
+    Ok(list(run(|| uiua::unpack(m, d.map(|d| d as u8), side)).expect("unpacks")))
+}
+
+fn half(d: u64) -> usize {
+    1 << d.clamp(1, 63) >> 1
+}
+
+fn done(c: &Call) -> Given<Answer> {
+    let w = &c.words;
+    let made = || rust::make(flavor(&w[1..5]), &c.a);
+    match c.op {
+        GRADE_SIZE => {
+            dims(w[0])?;
+            Ok(Answer { words: vec![0, grade_size(w[0] as u8, w[1] as u8) as u64], ..Answer::default() })
+        }
+        BLADE_COUNT => Ok(Answer { words: vec![if w[0] > 9 { 0 } else { 1 << w[0] }], ..Answer::default() }),
+        ORDER_OF => {
+            let d = if w[0] > 9 { 0 } else { w[0] as u8 };
+            let (masks, places) = mask_tables(d);
+            let held = |t: &[usize]| (0..512).map(|i| t.get(i).map_or(0.0, |x| *x as f64)).collect();
+            Ok(Answer { words: vec![d as u64], out: held(masks), right: held(places) })
+        }
+        METRIC => Ok(Answer { words: vec![(flavor(&w[1..]).metric(w[5] as u8) + 1) as u64], ..Answer::default() }),
+        TRY_FROM_STR => {
+            let bytes: Vec<u8> = w.iter().map(|b| *b as u8).collect();
+            unless(bytes.iter().any(|b| *b > 127), 7)?;
+            match Flavor::try_from_str(std::str::from_utf8(&bytes).unwrap()) {
+                None => Err(7),
+                Some(Err(_)) => Err(8),
+                Some(Ok(f)) => Ok(Answer { words: [vec![0], flavor_words(f).to_vec()].concat(), ..Answer::default() }),
+            }
+        }
+        WRITE_TO => {
+            let text = flavor(&w[1..]).to_string();
+            room(c.room, text.len())?;
+            Ok(Answer {
+                words: vec![0, text.len() as u64],
+                out: text.bytes().map(f64::from).chain(std::iter::repeat(7.0)).take(c.room).collect(),
+                right: vec![],
+            })
+        }
+        SET_DIMS => {
+            dims(w[0])?;
+            dims(w[5])?;
+            count(&c.a, w[0])?;
+            room(c.room, 1 << w[5])?;
+            Ok(value(run(|| {
+                let mut m = made();
+                m.set_dims(w[5] as u8);
+                m
+            })))
+        }
+        SET_FLAVOR => {
+            let f = flavor(&w[6..]);
+            dims(w[0])?;
+            let n = w[0] + promotes(flavor(&w[1..]), f);
+            dims(n)?;
+            count(&c.a, w[0])?;
+            room(c.room, 1 << n)?;
+            Ok(value(run(|| {
+                let mut m = made();
+                m.set_flavor(f);
+                m
+            })))
+        }
+        CONFORM_TO => {
+            let theirs = flavor(&w[6..]);
+            dims(w[0])?;
+            let n = (w[0] + promotes(flavor(&w[1..]), theirs)).max(w[5]);
+            dims(n)?;
+            count(&c.a, w[0])?;
+            room(c.room, 1 << n)?;
+            let other = rust::make(theirs, &vec![1.0; 1 << w[5]]);
+            Ok(value(run(|| {
+                let mut m = made();
+                rust::conform_to(&mut m, &other);
+                m
+            })))
+        }
+        CONFORM => {
+            let (f, g) = (flavor(&w[1..]), flavor(&w[6..]));
+            dims(w[0])?;
+            dims(w[5])?;
+            let n = (w[0] + promotes(f, g)).max(w[5] + promotes(g, f));
+            dims(n)?;
+            count(&c.a, w[0])?;
+            count(&c.b, w[5])?;
+            room(c.room, 1 << n)?;
+            room(c.room_right, 1 << n)?;
+            let (a, b) = run(|| {
+                let (mut a, mut b) = (made(), rust::make(g, &c.b));
+                rust::conform(&mut a, &mut b);
+                (a, b)
+            });
+            Ok(Answer {
+                words: [vec![0], shape_words(&a), shape_words(&b)].concat(),
+                out: rust::coefs(&a).to_vec(),
+                right: rust::coefs(&b).to_vec(),
+            })
+        }
+        GET_BLADE => {
+            dims(w[0])?;
+            count(&c.a, w[0])?;
+            Ok(Answer { words: vec![0], out: vec![run(|| made().get_blade(w[5] as usize))], right: vec![] })
+        }
+        SET_BLADE => {
+            dims(w[0])?;
+            unless(w[5] >= 512, 1)?;
+            count(&c.a, w[0])?;
+            let grown = (64 - w[5].leading_zeros() as u64).max(w[0]);
+            room(c.room, 1 << grown)?;
+            Ok(value(run(|| {
+                let mut m = made();
+                m.set_blade(w[5] as usize, c.b[0]);
+                m
+            })))
+        }
+        GRADE => {
+            dims(w[0])?;
+            count(&c.a, w[0])?;
+            unless(w[5] > w[0], 4)?;
+            Ok(list(run(|| made().grades().nth(w[5] as usize).unwrap().to_vec())))
+        }
+        VECTOR => {
+            dims(c.a.len() as u64)?;
+            room(c.room, 1 << c.a.len())?;
+            Ok(value(run(|| Multivector::vector(&c.a[..], flavor(&w[1..])))))
+        }
+        N_1_BLADES => {
+            dims(c.a.len() as u64)?;
+            unless(c.a.len() < 2, 2)?;
+            room(c.room, 1 << c.a.len())?;
+            Ok(value(run(|| Multivector::n_1_blades(&c.a[..], flavor(&w[1..])))))
+        }
+        SCALAR | PSEUDOSCALAR => {
+            let f = flavor(&w[1..]);
+            let n = w[0] + (f == Flavor::Projective) as u64;
+            dims(n)?;
+            room(c.room, 1 << n)?;
+            let make = if c.op == SCALAR { Multivector::scalar } else { Multivector::pseudoscalar };
+            Ok(value(run(|| make(w[0] as u8, c.b[0], f))))
+        }
+        BLADES_LEFT | BLADES_RIGHT => {
+            dims(w[0])?;
+            let make = if c.op == BLADES_LEFT { Multivector::blades_left } else { Multivector::blades_right };
+            let m = run(|| make(w[0] as u8, c.a.clone(), flavor(&w[1..]))).map_err(|_| 2u64)?;
+            room(c.room, 1 << w[0])?;
+            Ok(value(m))
+        }
+        UNPACK_ALL => unpacked(c, Some(w[5]), None, 1 << w[5].min(63)),
+        UNPACK_EVEN => unpacked(c, Some(w[5]), Some(SubSide::Left), half(w[5])),
+        UNPACK_ODD => unpacked(c, Some(w[5]), Some(SubSide::Right), half(w[5])),
+        UNPACK_OWN_EVEN => unpacked(c, None, Some(SubSide::Left), half(w[0])),
+        UNPACK_OWN_ODD => unpacked(c, None, Some(SubSide::Right), half(w[0])),
+        UNPACK_VECTOR => unpacked(c, None, None, w[0] as usize),
+        _ => unreachable!("no call has this number"),
+    }
+}
+
+/// What comes out of a call: the Rust's answer, or a refusal with its number, zeros and nothing written.
+pub fn answer(c: &Call) -> Answer {
+    done(c).unwrap_or_else(|number| {
+        let zeros = match c.op {
+            GRADE_SIZE | WRITE_TO | GRADE | UNPACK_ALL..=UNPACK_VECTOR => 1,
+            TRY_FROM_STR => 4,
+            CONFORM => 10,
+            GET_BLADE => 0,
+            _ => 5,
+        };
+        let out = match c.op {
+            GET_BLADE => vec![0.0],
+            WRITE_TO => vec![7.0; c.room],
+            _ => vec![],
+        };
+        Answer { words: [vec![number], vec![0; zeros]].concat(), out, right: vec![] }
+    })
+}
