@@ -7,7 +7,6 @@ use super::words::read_numbers;
 use super::words::read_words;
 use super::words::word_at;
 ghost use Prim.Native.Nat.{_≤_};
-ghost use lib.ListN.{length};
 
 // What an output holds before a call, in every place.
 const MARK: u64 = 0x4132_d687_1000_0000;

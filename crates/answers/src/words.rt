@@ -1,7 +1,6 @@
 // Hexadecimal words of a line, and numbers from their patterns.
-ghost use Prim.Native.Nat.{_<_, _≤_, _^_};
+ghost use Prim.Native.Nat.{_≤_};
 ghost use lib.ListN.{length};
-ghost use mathlib.Core.Path.{_≡_};
 
 // A word's value and where the next one begins.
 pub struct Word {

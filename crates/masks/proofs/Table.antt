@@ -1,6 +1,6 @@
 -- The starred lines of document 01's worked table that belong to this layer, in one table with one proof. Assumes nothing.
 use mathlib.Core.Path.{_≡_, refl}
-use mathlib.Core.Bool.{true, false}
+use mathlib.Core.Bool.{false}
 use mathlib.Core.List.{List, [], _∷_, _++_}
 use Prim.Native.Nat.{ℕ}
 use lib.Count.{ones, onesIn}
@@ -9,7 +9,7 @@ use lib.IntN.{pos}
 use lib.ListN.{replicate}
 use Rattle.masks.specs.declared.flavor.Flavor.the-variants.{Vanilla, Projective}
 use Rattle.masks.specs.Order.{order, below, grade, place, start, size, rank}
-use Rattle.masks.specs.Outcome.{Outcome, shapeOf, value, unless, refusal}
+use Rattle.masks.specs.Outcome.{shapeOf, value, unless, refusal}
 use Rattle.masks.specs.Shapes.{nought, coef, turnedMask, resized, setDims, promotes, promoted, setFlavor}
 use Rattle.masks.specs.Build.{bladesOf, packing, spread}
 

@@ -1,5 +1,5 @@
 -- Building values from few numbers. Assumes nothing.
-use mathlib.Core.Bool.{Bool, true, false, not, cond}
+use mathlib.Core.Bool.{Bool, true, false, cond}
 use mathlib.Core.List.{List, [], _∷_, _++_}
 use Prim.Native.Nat.{ℕ, zero, suc, _+_, _-_, _*_, _^_, _/_, _%_}
 use lib.Count.{ones}
@@ -11,7 +11,7 @@ use Rattle.masks.specs.declared.flavor.Flavor.the-variants.{Vanilla}
 use Rattle.masks.specs.declared.build.Packing.{Packing}
 use Rattle.masks.specs.declared.build.Packing.the-variants.{Full, Half, Grade, Nothing}
 use Rattle.masks.specs.Order.{order, size, start}
-use Rattle.masks.specs.Outcome.{Outcome, Test, refusal, tooMany, noRoom, unless, value, refusedValue, shapeOf}
+use Rattle.masks.specs.Outcome.{Outcome, refusal, tooMany, noRoom, unless, value, refusedValue, shapeOf}
 use Rattle.masks.specs.Flavors.{addedDims}
 use Rattle.masks.specs.Shapes.{nought}
 

@@ -1,5 +1,5 @@
 -- Changes of shape, and single blades. Assumes nothing.
-use mathlib.Core.Bool.{Bool, true, false, not, _&&_, _||_, cond}
+use mathlib.Core.Bool.{Bool, false, not, _&&_, _||_, cond}
 use mathlib.Core.List.{List, [], _∷_, map}
 use Prim.Native.Nat.{ℕ, zero, suc, _+_, _-_, _^_, _/_, _%_, max}
 use lib.Dec.{eqb, ltb}
@@ -12,7 +12,7 @@ use Rattle.masks.specs.declared.shape.Shape.{Shape}
 use Rattle.masks.specs.declared.outcome.Number.{Number}
 use Rattle.masks.specs.declared.outcome.Count.{Count}
 use Rattle.masks.specs.Order.{order, place, size, start}
-use Rattle.masks.specs.Outcome.{Outcome, Pair, Test, refusal, tooMany, wrongCount, noRoom, unless, value, refusedValue, refusedPair, shapeOf}
+use Rattle.masks.specs.Outcome.{Outcome, Pair, refusal, tooMany, wrongCount, noRoom, unless, value, refusedValue, refusedPair}
 
 -- ---- coefficients by mask
 

@@ -1,7 +1,7 @@
 -- The text of a flavor, read and written, as a list of bytes. Assumes nothing.
 use mathlib.Core.Bool.{Bool, true, false, not, _&&_, _||_, cond}
 use mathlib.Core.List.{List, [], _∷_, _++_, reverse}
-use Prim.Native.Nat.{ℕ, zero, suc, _+_, _-_, _*_, _/_, _%_}
+use Prim.Native.Nat.{ℕ, _+_, _-_, _*_, _/_, _%_}
 use lib.Dec.{eqb, leb, ltb}
 use lib.ListN.{length, take, drop}
 use Rattle.masks.specs.declared.flavor.Flavor.{Flavor}
@@ -9,7 +9,7 @@ use Rattle.masks.specs.declared.flavor.Flavor.the-variants.{Vanilla, Pro
 use Rattle.masks.specs.declared.text.Octet.{Octet}
 use Rattle.masks.specs.declared.text.Octet.the-variants.{Is, Missing}
 use Rattle.masks.specs.declared.text.Read.{Read}
-use Rattle.masks.specs.Outcome.{Written, Test, refusal, noRoom, unless, refusedList, listed}
+use Rattle.masks.specs.Outcome.{Written, refusal, noRoom, unless, refusedList, listed}
 
 -- ---- bytes
 

@@ -1,5 +1,5 @@
 -- Unpacking a value by mask; no sign is adjusted. Assumes nothing.
-use mathlib.Core.Bool.{Bool, true, false, cond}
+use mathlib.Core.Bool.{cond}
 use mathlib.Core.List.{List, [], _∷_, map}
 use Prim.Native.Nat.{ℕ, _-_, _^_}
 use lib.Dec.{eqb}
@@ -7,7 +7,7 @@ use lib.Ieee.{Float}
 use lib.ListN.{length, take, drop}
 use Rattle.masks.specs.declared.shape.Shape.{Shape}
 use Rattle.masks.specs.Order.{order}
-use Rattle.masks.specs.Outcome.{Written, Test, refusal, tooMany, wrongCount, noRoom, unless, refusedList, listed}
+use Rattle.masks.specs.Outcome.{Written, refusal, tooMany, wrongCount, noRoom, unless, refusedList, listed}
 use Rattle.masks.specs.Shapes.{coef}
 use Rattle.masks.specs.Build.{ofParity}
 

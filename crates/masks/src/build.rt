@@ -17,16 +17,15 @@ use super::outcome::refused;
 use super::outcome::shape_of;
 ghost use mathlib.Core.Path.{_≡_};
 ghost use mathlib.Core.Bool.{cond};
-ghost use mathlib.Core.List.{[], _∷_};
 ghost use Prim.Native.Nat.{ℕ, _+_, _-_, _*_, _≤_, _<_, _^_};
-ghost use lib.Dec.{eqb, ltb};
+ghost use lib.Dec.{ltb};
 ghost use lib.Ieee.{nan};
 ghost use lib.ListN.{length, take, getD};
-ghost use Rattle.masks.specs.Order.{size, start, order, masksOf};
-ghost use Rattle.masks.specs.Outcome.{Gives, refusal, tooMany, noRoom, laid, answerOf};
+ghost use Rattle.masks.specs.Order.{start, order};
+ghost use Rattle.masks.specs.Outcome.{Gives, laid};
 ghost use Rattle.masks.specs.Flavors.{addedDims};
 ghost use Rattle.masks.specs.Unpack.{choose};
-ghost use Rattle.masks.specs.Build.{padded, atGrade, builtRefusal, vector, n1Blades, scalar, pseudoscalar, firstGrade, sideStart, sideEnd, packing, spread, packed, bladesOf};
+ghost use Rattle.masks.specs.Build.{padded, atGrade, builtRefusal, vector, n1Blades, scalar, pseudoscalar, firstGrade, packing, spread, bladesOf};
 
 // How some numbers fill a value.
 pub enum Packing {
@@ -190,6 +189,7 @@ fn spread_over(odd: u32, n: usize, masks: &[u16; 512], v: &[f64], out: &mut [f64
     requires { ⌜ (n ≤ 512) × (length (now v) ≡ length (choose odd (take n (now masks)))) × (n ≤ length (now out)) ⌝ }
     ensures { λ _. ⌜ now (out .exit) ≡ laid (spread odd (take n (now (masks .entry))) (now (v .entry))) (now (out .entry)) ⌝ }
 {
+    // As a slice, of which the proof knows the elements' range.
     let all = &masks[..];
     let mut at: usize = 0;
     let mut k: usize = 0;

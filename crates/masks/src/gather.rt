@@ -50,6 +50,7 @@ pub(crate) fn gather<'o>(
     requires { ⌜ (first + count ≤ 512) × (count ≤ length (now out)) ⌝ }
     ensures { λ _. ⌜ now (out .exit) ≡ laid (map (moved turned dims (now (a .entry))) (take count (drop first (now (masks .entry))))) (now (out .entry)) ⌝ }
 {
+    // As a slice, of which the proof knows the elements' range.
     let all = &masks[..];
     let mut k: usize = 0;
     while k < count {
@@ -119,7 +120,9 @@ fn lower_masks(n: usize, masks: &[u16; 512], to: &mut [u16; 512])
     requires { ⌜ n ≤ 512 ⌝ }
     ensures { λ _. ⌜ now (to .exit) ≡ laid (map lowered (take n (now (masks .entry)))) (now (to .entry)) ⌝ }
 {
+    // As a slice, of which the proof knows the elements' range.
     let all = &masks[..];
+    // As a slice, of which the proof knows the length.
     let room = &mut to[..];
     let mut i: usize = 0;
     while i < n {

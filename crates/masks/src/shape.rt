@@ -17,7 +17,7 @@ use super::outcome::refused;
 use super::outcome::refused_pair;
 ghost use mathlib.Core.Path.{_≡_};
 ghost use mathlib.Core.List.{[], _∷_};
-ghost use Prim.Native.Nat.{_+_, _≤_, _^_, max};
+ghost use Prim.Native.Nat.{_^_, max};
 ghost use lib.ListN.{length};
 ghost use Rattle.masks.specs.Outcome.{Gives, GivesBoth, refusal, tooMany, wrongCount, noRoom};
 ghost use Rattle.masks.specs.Shapes.{withDims, withFlavor, promotes, conformedShape, setDims, setFlavor, conformTo, conform};

@@ -13,11 +13,10 @@ use super::outcome::refusal_of;
 use super::shape::Shape;
 ghost use mathlib.Core.Path.{_≡_};
 ghost use mathlib.Core.Bool.{cond};
-ghost use mathlib.Core.List.{[], _∷_, map};
-ghost use Prim.Native.Nat.{_+_, _-_, _≤_, _<_, _^_};
+ghost use mathlib.Core.List.{map};
+ghost use Prim.Native.Nat.{_-_, _≤_, _^_};
 ghost use lib.Dec.{ltb};
-ghost use lib.ListN.{length, take, drop};
-ghost use Rattle.masks.specs.Order.{order, masksOf, placesOf};
+ghost use lib.ListN.{length, take};
 ghost use Rattle.masks.specs.Outcome.{Writes, laid};
 ghost use Rattle.masks.specs.Shapes.{coef, refusedCount};
 ghost use Rattle.masks.specs.Unpack.{choose, halfMasks, halfOf, unpackAll, unpackHalf, unpackOwnHalf, unpackVector};
@@ -33,7 +32,9 @@ fn choose_masks(odd: u32, n: usize, masks: &[u16; 512], to: &mut [u16; 512]) -> 
     requires { ⌜ n ≤ 512 ⌝ }
     ensures { λ r. ⌜ (r ≡ length (choose odd (take n (now (masks .entry))))) × (take r (now (to .exit)) ≡ choose odd (take n (now (masks .entry)))) ⌝ }
 {
+    // As a slice, of which the proof knows the elements' range.
     let all = &masks[..];
+    // As a slice, of which the proof knows the length.
     let room = &mut to[..];
     let mut end: usize = 0;
     let mut i: usize = 0;

@@ -5,7 +5,7 @@ use native.Mathlib.Omega.{arith}
 use lib.ListN.{length, drop}
 use borrow.Author.Tests.{le-leb, lt-leb}
 use Rattle.masks.specs.Text.{every}
-use Rattle.masks.proofs.TextLaws.{ascii, every-on, every-not, every-end}
+use Rattle.masks.proofs.ScanLaws.{ascii, every-on, every-not, every-end}
 use Rattle.masks.proofs.text.is_ascii.Statement.{statement}
 use Rattle.masks.proofs.text.is_ascii.Tie as tie
 

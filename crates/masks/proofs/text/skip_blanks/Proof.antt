@@ -5,7 +5,7 @@ use native.Mathlib.Omega.{arith}
 use lib.ListN.{length}
 use borrow.Author.Tests.{not-true, not-false}
 use Rattle.masks.specs.Text.{blank}
-use Rattle.masks.proofs.TextLaws.{Scanned, scan-on, scan-stop, scan-end}
+use Rattle.masks.proofs.ScanLaws.{Scanned, scan-on, scan-stop, scan-end}
 use Rattle.masks.proofs.text.skip_blanks.Statement.{statement}
 use Rattle.masks.proofs.text.skip_blanks.Tie as tie
 

@@ -5,7 +5,7 @@ use Prim.Native.Nat.{_-_}
 use native.Mathlib.Omega.{arith}
 use lib.ListN.{length}
 use Rattle.masks.specs.Text.{inPart}
-use Rattle.masks.proofs.TextLaws.{Scanned, scan-on, scan-stop, scan-end, scan-taken}
+use Rattle.masks.proofs.ScanLaws.{Scanned, scan-on, scan-stop, scan-end, scan-taken}
 use Rattle.masks.proofs.text.skip_part.Statement.{statement}
 use Rattle.masks.proofs.text.skip_part.Tie as tie
 
