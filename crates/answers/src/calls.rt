@@ -21,9 +21,14 @@ fn flavor_at(kind: u64, p: u64, n: u64, z: u64) -> Flavor {
     Flavor::Cl(byte(p), byte(n), byte(z))
 }
 
+// A flavor is kind, p, n, z, after one word.
+fn flavor_in(ins: &[u64; 16]) -> Flavor {
+    flavor_at(ins[1], ins[2], ins[3], ins[4])
+}
+
 // A shape is dims, kind, p, n, z.
 fn shape_in(ins: &[u64; 16]) -> Shape {
-    let flavor = flavor_at(ins[1], ins[2], ins[3], ins[4]);
+    let flavor = flavor_in(ins);
     Shape {
         dims: byte(ins[0]),
         flavor,
@@ -156,7 +161,7 @@ fn order_of(ins: &[u64; 16], out: &mut [f64], right: &mut [f64], outs: &mut [u64
 }
 
 fn metric(ins: &[u64; 16], outs: &mut [u64; 16]) -> usize {
-    let f = flavor_at(ins[1], ins[2], ins[3], ins[4]);
+    let f = flavor_in(ins);
     outs[0] = match f.metric(byte(ins[5])) {
         Metric::Minus => 0,
         Metric::Zero => 1,
@@ -189,7 +194,7 @@ fn try_from_str(ins: &[u64; 16], given: usize, outs: &mut [u64; 16]) -> usize {
 
 // The bytes that are there before stand for those past the text.
 fn write_to(ins: &[u64; 16], out: &mut [f64], outs: &mut [u64; 16]) -> usize {
-    let f = flavor_at(ins[1], ins[2], ins[3], ins[4]);
+    let f = flavor_in(ins);
     let mut t = [7u8; 16];
     let room = out.len();
     if 16 < room {
@@ -263,12 +268,12 @@ fn grade(ins: &[u64; 16], a: &[f64], out: &mut [f64], outs: &mut [u64; 16]) -> u
 }
 
 fn vector(ins: &[u64; 16], a: &[f64], out: &mut [f64], outs: &mut [u64; 16]) -> usize {
-    let f = flavor_at(ins[1], ins[2], ins[3], ins[4]);
+    let f = flavor_in(ins);
     put_answer(build::vector(a, f, out), outs)
 }
 
 fn n_1_blades(ins: &[u64; 16], a: &[f64], out: &mut [f64], outs: &mut [u64; 16]) -> usize {
-    let f = flavor_at(ins[1], ins[2], ins[3], ins[4]);
+    let f = flavor_in(ins);
     put_answer(build::n_1_blades(a, f, out), outs)
 }
 
@@ -276,7 +281,7 @@ fn scalar(ins: &[u64; 16], b: &[f64], out: &mut [f64], outs: &mut [u64; 16]) -> 
     if b.len() == 0 {
         return 0;
     }
-    let f = flavor_at(ins[1], ins[2], ins[3], ins[4]);
+    let f = flavor_in(ins);
     put_answer(build::scalar(byte(ins[0]), b[0], f, out), outs)
 }
 
@@ -284,17 +289,17 @@ fn pseudoscalar(ins: &[u64; 16], b: &[f64], out: &mut [f64], outs: &mut [u64; 16
     if b.len() == 0 {
         return 0;
     }
-    let f = flavor_at(ins[1], ins[2], ins[3], ins[4]);
+    let f = flavor_in(ins);
     put_answer(build::pseudoscalar(byte(ins[0]), b[0], f, out), outs)
 }
 
 fn blades_left(ins: &[u64; 16], a: &[f64], out: &mut [f64], outs: &mut [u64; 16]) -> usize {
-    let f = flavor_at(ins[1], ins[2], ins[3], ins[4]);
+    let f = flavor_in(ins);
     put_answer(build::blades_left(byte(ins[0]), a, f, out), outs)
 }
 
 fn blades_right(ins: &[u64; 16], a: &[f64], out: &mut [f64], outs: &mut [u64; 16]) -> usize {
-    let f = flavor_at(ins[1], ins[2], ins[3], ins[4]);
+    let f = flavor_in(ins);
     put_answer(build::blades_right(byte(ins[0]), a, f, out), outs)
 }
 

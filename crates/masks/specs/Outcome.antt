@@ -15,42 +15,42 @@ use Rattle.masks.specs.declared.outcome.Count.{Count}
 
 -- ---- refusals
 
--- a test of a call, and the number that the call is refused with where the test fails
+-- A call is refused with the number of a test that fails.
 pub record Test : Type 0 where
   pub fails : Bool
   pub number : ℕ
 
--- the number of the first test that fails; 0 where none does
+-- `refusal` is the number of the first test that fails, and 0 where none does.
 unfoldable pub refusal : List Test → ℕ
 refusal [] = 0
 refusal (t ∷ ts) = cond (t .fails) (t .number) (refusal ts)
 
--- 1: a given or resulting dimension is above 9
+-- 1: A given or resulting dimension is above 9.
 abbrev pub tooMany : ℕ → Test
 tooMany d = record { fails = ltb 9 d; number = 1 }
 
--- 2: a value's count of numbers is not that of its dimensions
+-- 2: A value's count of numbers is not that of its dimensions.
 abbrev pub wrongCount : ℕ → ℕ → Test
 wrongCount count d = record { fails = not (eqb count (2 ^ d)); number = 2 }
 
--- 3: the output is shorter than the result
+-- 3: The output is shorter than the result.
 abbrev pub noRoom : ℕ → ℕ → Test
 noRoom room needed = record { fails = ltb room needed; number = 3 }
 
--- the result, unless the number k of a refusal is given
+-- `unless refused k a` is the result a, unless k is the number of a refusal.
 unfoldable pub unless {ℓ} : {A : Type ℓ} → (ℕ → A) → ℕ → A → A
 unless refused zero a = a
 unless refused (suc k) a = refused (suc k)
 
 -- ---- outputs
 
--- an output after a call: what was written from the front, and past that what was there
+-- An output holds after a call what was written from the front, and past that what was there.
 abbrev pub laid {ℓ} : {A : Type ℓ} → List A → List A → List A
 laid xs before = xs ++ drop (length xs) before
 
 -- ---- a value: its number, its shape and its coefficients
 
--- a shape made anew
+-- `shapeOf` makes a shape anew.
 abbrev pub shapeOf : ℕ → Flavor → Shape
 shapeOf d f = record { dims = d; flavor = f }
 
@@ -59,17 +59,19 @@ pub record Outcome : Type 0 where
   pub shape : Shape
   pub coefs : List Float
 
--- a refusal has its number, shape 0 Vanilla, and writes nothing
+-- A refusal has its number and shape 0 Vanilla, and writes nothing.
 abbrev pub refusedValue : ℕ → Outcome
 refusedValue k = record { number = k; shape = shapeOf 0 Vanilla; coefs = [] }
 
+-- A call that is done has number 0.
 abbrev pub value : Shape → List Float → Outcome
 value s xs = record { number = 0; shape = s; coefs = xs }
 
+-- The answer has the outcome's number and shape; the coefficients are in the output.
 abbrev pub answerOf : Outcome → Answer
 answerOf o = record { number = o .number; shape = o .shape }
 
--- the answer r, and the output's numbers before and after, are those of the outcome
+-- The answer r, and the output's numbers before and after, are those of the outcome.
 pub record Gives (o : Outcome) (r : Answer) (before after : List Float) : Type 0 where
   pub answered : r ≡ answerOf o
   pub left : after ≡ laid (o .coefs) before
@@ -83,14 +85,16 @@ pub record Pair : Type 0 where
   pub leftCoefs : List Float
   pub rightCoefs : List Float
 
+-- A refusal has its number and two shapes 0 Vanilla, and writes nothing.
 abbrev pub refusedPair : ℕ → Pair
 refusedPair k =
     record { number = k; leftShape = shapeOf 0 Vanilla; rightShape = shapeOf 0 Vanilla; leftCoefs = []; rightCoefs = [] }
 
+-- The answer has the pair's number and shapes.
 abbrev pub answersOf : Pair → Answers
 answersOf o = record { number = o .number; left = o .leftShape; right = o .rightShape }
 
--- the answer r, and both outputs' numbers before and after, are those of the pair
+-- The answer r, and both outputs' numbers before and after, are those of the pair.
 pub record GivesBoth (o : Pair) (r : Answers) (before after beforeRight afterRight : List Float) : Type 0 where
   pub answered : r ≡ answersOf o
   pub left : after ≡ laid (o .leftCoefs) before
@@ -102,16 +106,19 @@ pub record Written (A : Type 0) : Type 0 where
   pub number : ℕ
   pub items : List A
 
+-- A refusal has its number, and writes nothing.
 abbrev pub refusedList : {A : Type 0} → ℕ → Written A
 refusedList k = record { number = k; items = [] }
 
+-- A list that is done has number 0.
 abbrev pub listed : {A : Type 0} → List A → Written A
 listed xs = record { number = 0; items = xs }
 
+-- The answer has the list's number and count.
 abbrev pub countOf : {A : Type 0} → Written A → Count
 countOf o = record { number = o .number; count = length (o .items) }
 
--- the answer r, and the output before and after, are those of the list
+-- The answer r, and the output before and after, are those of the list.
 pub record Writes {A : Type 0} (o : Written A) (r : Count) (before after : List A) : Type 0 where
   pub counted : r ≡ countOf o
   pub left : after ≡ laid (o .items) before

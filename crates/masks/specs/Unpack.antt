@@ -11,39 +11,39 @@ use Rattle.masks.specs.Outcome.{Written, refusal, tooMany, wrongCount, n
 use Rattle.masks.specs.Shapes.{coef}
 use Rattle.masks.specs.Build.{ofParity}
 
--- the masks of one parity, in order
+-- `choose` keeps the masks of one parity, in order.
 unfoldable pub choose : ℕ → List ℕ → List ℕ
 choose odd [] = []
 choose odd (m ∷ ms) = cond (ofParity odd m) (m ∷ choose odd ms) (choose odd ms)
 
--- the masks of the even (0) or odd (1) blades at d dimensions; where d is 0, the one mask `lone`
+-- `halfMasks odd lone d` has the masks of the even (0) or odd (1) blades at d dimensions; where d is 0, the one mask `lone`.
 unfoldable pub halfMasks : ℕ → ℕ → ℕ → List ℕ
 halfMasks odd lone d = cond (eqb d 0) (lone ∷ []) (choose odd (order d))
 
--- what is refused of a value of `dims` dimensions whose unpacking at d dimensions has `needed` numbers
+-- A value of `dims` dimensions is unpacked at d dimensions, and its unpacking has `needed` numbers.
 abbrev pub unpackRefusal : ℕ → ℕ → List Float → ℕ → ℕ → ℕ
 unpackRefusal dims d a room needed =
     refusal (tooMany dims ∷ tooMany d ∷ wrongCount (length a) dims ∷ noRoom room needed ∷ [])
 
--- all blades at d dimensions
+-- `unpackAll` reads all blades at d.
 unfoldable pub unpackAll : Shape → ℕ → List Float → ℕ → Written Float
 unpackAll s d a room =
     unless refusedList (unpackRefusal (s .dims) d a room (2 ^ d)) (listed (map (coef (s .dims) a) (order d)))
 
--- the even or odd blades at d dimensions of a value of `dims`; 2 ^ (d - 1) numbers, which is one where d is 0
+-- `halfOf` reads the even or odd blades at d of a value of `dims` dimensions: 2 ^ (d - 1) numbers, which is one where d is 0.
 unfoldable pub halfOf : ℕ → ℕ → ℕ → ℕ → List Float → ℕ → Written Float
 halfOf odd lone dims d a room =
     unless refusedList (unpackRefusal dims d a room (2 ^ (d - 1))) (listed (map (coef dims a) (halfMasks odd lone d)))
 
--- at stated dimensions: where these are 0, the scalar
+-- Stated d = 0 gives the scalar.
 abbrev pub unpackHalf : ℕ → Shape → ℕ → List Float → ℕ → Written Float
 unpackHalf odd s d a room = halfOf odd 0 (s .dims) d a room
 
--- at the value's own dimensions: where these are 0, the scalar for even, and for odd 0, as mask 1 is outside
+-- Own d = 0 gives one number, 0 for odd, since mask 1 is outside.
 abbrev pub unpackOwnHalf : ℕ → Shape → List Float → ℕ → Written Float
 unpackOwnHalf odd s a room = halfOf odd odd (s .dims) (s .dims) a room
 
--- the vector at the value's own dimensions: the masks of grade 1
+-- `unpackVector` reads the masks of grade 1 at own dimensions.
 unfoldable pub unpackVector : Shape → List Float → ℕ → Written Float
 unpackVector s a room =
     unless refusedList (unpackRefusal (s .dims) (s .dims) a room (s .dims))
