@@ -13,16 +13,15 @@ use lib.Ieee.{Float, nan}
 use lib.ListN.{length, getD, drop, replicate, length-append, length-replicate, getD-replicate, List·getD-append}
 use lib.Pow.{pow-pos}
 use lib.Seq.{drop-cons}
-use borrow.Author.Tests.{eq-eqb, ne-eqb, eqb-true, eqb-false, lt-ltb, le-ltb, ltb-true, ltb-false}
+use borrow.Author.Tests.{eq-eqb, ne-eqb, eqb-true, eqb-false, lt-ltb, le-ltb, ltb-false}
 use Rattle.masks.specs.declared.flavor.Flavor.{Flavor}
-use Rattle.masks.specs.declared.flavor.Flavor.the-variants.{Vanilla, Projective, Cl}
+use Rattle.masks.specs.declared.flavor.Flavor.the-variants.{Vanilla}
 use Rattle.masks.specs.declared.build.Packing.{Packing}
 use Rattle.masks.specs.declared.build.Packing.the-variants.{Full, Half, Grade, Nothing}
 use Rattle.masks.specs.Order.{grade, below, order, size, start}
 use Rattle.masks.specs.Outcome.{refusal, tooMany, noRoom, value, refusedValue, shapeOf}
-use Rattle.masks.specs.Flavors.{addedDims}
 use Rattle.masks.specs.Shapes.{nought}
-use Rattle.masks.specs.Build.{padded, atGrade, builtRefusal, vector, n1Blades, scalar, pseudoscalar, firstGrade, sideStart, sideEnd, packing, unpacked, ofParity, spread, packed, bladesOf}
+use Rattle.masks.specs.Build.{padded, atGrade, builtRefusal, oneGrade, n1Blades, firstGrade, sideStart, sideEnd, packing, unpacked, ofParity, spread, packed, bladesOf}
 use Rattle.masks.specs.Unpack.{choose}
 use Rattle.masks.proofs.ListLaws.{getD-past}
 use Rattle.masks.proofs.OrderLaws.{length-grade, length-order, grade-at, size-zero, start-all, size-above, part-fits}
@@ -403,30 +402,6 @@ built-taken d room e =
     let q = past (noRoom room (2 ^ d)) _ (λ q. omega arith) (p .1) in
     (ltb-false _ _ (p .0), ltb-false _ _ (q .0))
 
--- the dimensions that the code works out, which are 10 where those stated are above 9
-module _ (d added n : ℕ) (e : n ≡ cond (ltb 9 d) 10 (d + added)) where
-  -- dimensions above 9 are refused, whatever is added to them
-  pub added-refusal : (room : ℕ) → builtRefusal n room ≡ builtRefusal (d + added) room
-  unfolding refusal
-  added-refusal room = rw e (go (ltb 9 d) (ltb-true 9 d))
-    where
-      go : (b : Bool) → (b ≡ true → 9 < d) → builtRefusal (cond b 10 (d + added)) room ≡ builtRefusal (d + added) room
-      go true h = rw (lt-ltb 9 (d + added) (omega (arith, h refl)))
-      go false h = refl
-
-  pub added-exact : n ≤ 9 → n ≡ d + added
-  added-exact h = e ∙ go (ltb 9 d) (rw e at h)
-    where
-      go : (b : Bool) → cond b 10 (d + added) ≤ 9 → cond b 10 (d + added) ≡ d + added
-      go true l = absurd (omega arith)
-      go false l = refl
-
-pub added-le : (f : Flavor) → addedDims f ≤ 1
-unfolding addedDims
-added-le Vanilla = omega arith
-added-le Projective = omega arith
-added-le (Cl p n z) = omega arith
-
 -- the numbers of the grade below the last are at least 2
 module _ (n room : ℕ) where
   pub few : n < 2 → refusal (tooMany n ∷ record { fails = ltb n 2; number = 2 } ∷ noRoom room (2 ^ n) ∷ []) ≡ 2
@@ -460,24 +435,13 @@ module _ (d : ℕ) (p : Packing) (room : ℕ) where
 
 -- ---- what a call that is not refused gives
 
-module _ (v : List Float) (f : Flavor) (room : ℕ) (h : length v ≤ 9) (l : 2 ^ length v ≤ room) where
-  pub vector-built : vector v f room ≡ value (shapeOf (length v) f) (atGrade (length v) 1 v)
-  unfolding vector
-  vector-built = unless-done refusedValue _ 0 _ (sym (built-done (length v) room h l)) refl
+pub one-built : (n g : ℕ) (v : List Float) (f : Flavor) (room : ℕ) → n ≤ 9 → 2 ^ n ≤ room → oneGrade n g v f room ≡ value (shapeOf n f) (atGrade n g v)
+unfolding oneGrade
+one-built n g v f room h l = unless-done refusedValue _ 0 _ (sym (built-done n room h l)) refl
 
-  pub n1-built : 2 ≤ length v → n1Blades v f room ≡ value (shapeOf (length v) f) (atGrade (length v) (length v - 1) v)
-  unfolding n1Blades
-  n1-built m =
-      unless-done refusedValue _ 0 _ (sym (built-done (length v) room h l) ∙ enough (length v) room m) refl
-
-module _ (d : ℕ) (x : Float) (f : Flavor) (room : ℕ) (h : d + addedDims f ≤ 9) (l : 2 ^ (d + addedDims f) ≤ room) where
-  pub scalar-built : scalar d x f room ≡ value (shapeOf (d + addedDims f) f) (atGrade (d + addedDims f) 0 (x ∷ []))
-  unfolding scalar
-  scalar-built = unless-done refusedValue _ 0 _ (sym (built-done (d + addedDims f) room h l)) refl
-
-  pub pseudoscalar-built : pseudoscalar d x f room ≡ value (shapeOf (d + addedDims f) f) (atGrade (d + addedDims f) (d + addedDims f) (x ∷ []))
-  unfolding pseudoscalar
-  pseudoscalar-built = unless-done refusedValue _ 0 _ (sym (built-done (d + addedDims f) room h l)) refl
+pub n1-one : (v : List Float) (f : Flavor) (room : ℕ) → 2 ≤ length v → n1Blades v f room ≡ oneGrade (length v) (length v - 1) v f room
+unfolding n1Blades oneGrade
+n1-one v f room m = rw (enough (length v) room m)
 
 module _ (odd d : ℕ) (v : List Float) (f : Flavor) (room : ℕ) (h : d ≤ 9) (l : 2 ^ d ≤ room) where
   packed-built : (p : Packing) → packing odd d (length v) ≡ p → unpacked p ≡ false → bladesOf odd d v f room ≡ packed p odd d v f

@@ -1,22 +1,22 @@
 -- Laws of changes of shape: conforming, the tests of a change, and what accepted calls give. Assumes nothing.
 use mathlib.Core.Path.{_≡_, refl, sym, ap, _∙_}
+use mathlib.Core.Bool.{cond}
 use mathlib.Core.List.{List, [], _∷_}
-use Prim.Native.Nat.{ℕ, zero, suc, _+_, _^_, _≤_, _<_}
+use Prim.Native.Nat.{ℕ, zero, suc, _+_, _^_, _≤_}
 use native.Mathlib.Nat.{add-zero}
 use native.Mathlib.Omega.{arith}
-use borrow.Author.Tests.{lt-ltb, le-ltb, ltb-false, eq-eqb, eqb-true, not-false}
+use borrow.Author.Tests.{le-ltb, ltb-false, eq-eqb, eqb-true, not-false}
+use lib.Dec.{ltb}
 use lib.Ieee.{Float}
 use lib.ListN.{length, take}
 use Rattle.masks.specs.declared.flavor.Flavor.{Flavor}
 use Rattle.masks.specs.declared.flavor.Flavor.the-variants.{Vanilla, Projective, Cl}
-use Rattle.masks.specs.declared.outcome.Answer.{Answer}
-use Rattle.masks.specs.declared.outcome.Answers.{Answers}
 use Rattle.masks.specs.declared.shape.Shape.{Shape}
 use Rattle.masks.specs.Order.{bladeCount}
-use Rattle.masks.specs.Outcome.{Test, refusal, tooMany, wrongCount, noRoom, unless, laid, Outcome, shapeOf, refusedValue, value, answerOf, Gives, Pair, refusedPair, answersOf, GivesBoth}
+use Rattle.masks.specs.Outcome.{Test, refusal, tooMany, wrongCount, noRoom, unless, laid, Outcome, shapeOf, refusedValue, value, Pair, refusedPair}
 use Rattle.masks.specs.Shapes.{withDims, resized, setDims, promotes, promoted, setFlavor, conformed, promotedFlavor, conformedShape, conform}
 use Rattle.masks.proofs.ListLaws.{take-laid}
-use Rattle.masks.proofs.RefusalLaws.{past, Taken, taken, needed-same, refused-first, refused-later, unless-done, gives-refused, gives-both-refused}
+use Rattle.masks.proofs.RefusalLaws.{past, Taken, taken, later-same, needed-same, unless-done}
 use Rattle.masks.proofs.ShapeLaws.{count-small, one, resized-length, resized-back, promoted-length}
 
 -- ---- conforming
@@ -39,6 +39,10 @@ promotes-le Vanilla (Cl p n z) = omega arith
 promotes-le Projective g = omega arith
 promotes-le (Cl p n z) g = omega arith
 
+-- The code's dimensions of a promoted value are the definition's where the given ones are at most 9.
+pub promoted-small : (d up n : ℕ) → n ≡ cond (ltb 9 d) 10 (d + up) → d ≤ 9 → n ≡ d + up
+promoted-small d up n e l = e ∙ rw (le-ltb 9 d l)
+
 pub flavor-one : (up : ℕ) (f : Flavor) → (up ≡ 0 → ⊥) → Projective ≡ promotedFlavor up f
 flavor-one zero f h = absurd (h refl)
 flavor-one (suc up) f h = refl
@@ -58,23 +62,23 @@ passes d n count room needed t =
 pub checked : (k d n count room needed : ℕ) → k ≡ refusal (checks d n count room needed) → needed ≡ bladeCount n → k ≡ refusal (checks d n count room (2 ^ n))
 checked k d n count room needed e b = e ∙ needed-same d n count room needed (2 ^ n) (λ h. b ∙ count-small n h)
 
--- the first test fails
-pub first-refused : (d : ℕ) (ts : List Test) (o : Outcome) (r : Answer) (out : List Float) → 9 < d → r ≡ answerOf (refusedValue 1) → Gives (unless refusedValue (refusal (tooMany d ∷ ts)) o) r out out
-first-refused d ts o r out h e =
-    gives-refused (refusal (tooMany d ∷ ts)) 1 o r out (sym (refused-first (tooMany d) ts (lt-ltb 9 d h))) (λ q. omega arith) e
+-- Where the given dimensions are refused, the resulting ones do not count.
+pub checks-same : (d n m count room : ℕ) → (d ≤ 9 → n ≡ m) → refusal (checks d n count room (2 ^ n)) ≡ refusal (checks d m count room (2 ^ m))
+checks-same d n m count room h =
+    later-same d _ _ (λ l. ap (λ (k : ℕ). refusal (tooMany k ∷ wrongCount count d ∷ noRoom room (2 ^ k) ∷ [])) (h l))
 
 -- of two, of d and e dimensions, changed to n
 abbrev pub pairChecks : ℕ → ℕ → ℕ → ℕ → ℕ → ℕ → ℕ → List Test
 pairChecks d e n count countRight room roomRight =
     tooMany d ∷ tooMany e ∷ tooMany n ∷ wrongCount count d ∷ wrongCount countRight e ∷ noRoom room (2 ^ n) ∷ noRoom roomRight (2 ^ n) ∷ []
 
-pub left-refused : (d : ℕ) (ts : List Test) (o : Pair) (r : Answers) (out outRight : List Float) → 9 < d → r ≡ answersOf (refusedPair 1) → GivesBoth (unless refusedPair (refusal (tooMany d ∷ ts)) o) r out out outRight outRight
-left-refused d ts o r out outRight h e =
-    gives-both-refused (refusal (tooMany d ∷ ts)) 1 o r out outRight (sym (refused-first (tooMany d) ts (lt-ltb 9 d h))) (λ q. omega arith) e
-
-pub right-refused : (d e : ℕ) (ts : List Test) (o : Pair) (r : Answers) (out outRight : List Float) → d ≤ 9 → 9 < e → r ≡ answersOf (refusedPair 1) → GivesBoth (unless refusedPair (refusal (tooMany d ∷ tooMany e ∷ ts)) o) r out out outRight outRight
-right-refused d e ts o r out outRight l h q =
-    rw (refused-later (tooMany d) (tooMany e ∷ ts) (le-ltb 9 d l)) (left-refused e ts o r out outRight h q)
+-- Where the given dimensions of either are refused, the resulting ones do not count.
+pub pair-checks-same : (d e n m count countRight room roomRight : ℕ) → (d ≤ 9 → e ≤ 9 → n ≡ m) → refusal (pairChecks d e n count countRight room roomRight) ≡ refusal (pairChecks d e m count countRight room roomRight)
+pair-checks-same d e n m count countRight room roomRight h =
+    later-same d _ _
+    (λ l.
+    later-same e _ _
+    (λ r. ap (λ (k : ℕ). refusal (tooMany k ∷ wrongCount count d ∷ wrongCount countRight e ∷ noRoom room (2 ^ k) ∷ noRoom roomRight (2 ^ k) ∷ [])) (h l r)))
 
 -- what a caller may rest on where two values are not refused
 pub record Paired (d e n count countRight room roomRight : ℕ) : Type 0 where

@@ -1,10 +1,10 @@
 -- What holds where a call is refused and where it is not; and that a contract of each kind leaves nothing open. Assumes nothing.
-use mathlib.Core.Path.{_≡_, refl, sym, _∙_}
-use mathlib.Core.Bool.{Bool, true, false, not, cond}
+use mathlib.Core.Path.{_≡_, refl, sym, ap, _∙_}
+use mathlib.Core.Bool.{Bool, true, false, cond}
 use mathlib.Core.List.{List, [], _∷_}
 use Prim.Native.Nat.{ℕ, zero, suc, _^_, _≤_}
 use native.Mathlib.Omega.{arith}
-use lib.Dec.{ltb, eqb}
+use lib.Dec.{ltb}
 use lib.Ieee.{Float}
 use borrow.Author.Tests.{ltb-false, eqb-true, not-false}
 use Rattle.masks.specs.declared.outcome.Answer.{Answer}
@@ -43,17 +43,19 @@ taken d n count room needed e =
       roomy = ltb-false _ _ (s .0);
     }
 
+-- Where the dimensions are refused, the tests after theirs do not count.
+pub later-same : (d : ℕ) (ts us : List Test) → (d ≤ 9 → refusal ts ≡ refusal us) → refusal (tooMany d ∷ ts) ≡ refusal (tooMany d ∷ us)
+unfolding refusal
+later-same d ts us h = go (ltb 9 d) (ltb-false 9 d)
+  where
+    go : (b : Bool) → (b ≡ false → d ≤ 9) → cond b 1 (refusal ts) ≡ cond b 1 (refusal us)
+    go true f = refl
+    go false f = h (f refl)
+
 -- where the dimensions are refused, the numbers that are needed do not count
 pub needed-same : (d n count room needed needed′ : ℕ) → (n ≤ 9 → needed ≡ needed′) → refusal (tooMany d ∷ tooMany n ∷ wrongCount count d ∷ noRoom room needed ∷ []) ≡ refusal (tooMany d ∷ tooMany n ∷ wrongCount count d ∷ noRoom room needed′ ∷ [])
-unfolding refusal
-needed-same d n count room needed needed′ h = go (ltb 9 n) (ltb-false 9 n)
-  where
-    rest : ℕ → ℕ
-    rest k = cond (not (eqb count (2 ^ d))) 2 (cond (ltb room k) 3 0)
-
-    go : (b : Bool) → (b ≡ false → n ≤ 9) → cond (ltb 9 d) 1 (cond b 1 (rest needed)) ≡ cond (ltb 9 d) 1 (cond b 1 (rest needed′))
-    go true f = refl
-    go false f = rw (h (f refl))
+needed-same d n count room needed needed′ h =
+    later-same d _ _ (λ l. later-same n _ _ (λ m. ap (λ (k : ℕ). refusal (wrongCount count d ∷ noRoom room k ∷ [])) (h m)))
 
 -- the first test fails
 pub refused-first : (t : Test) (ts : List Test) → t .fails ≡ true → refusal (t ∷ ts) ≡ t .number

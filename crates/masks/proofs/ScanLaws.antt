@@ -1,14 +1,17 @@
 -- Laws of a scan over bytes: from the front, from the back, and of whole texts that are compared. Assumes nothing.
 use mathlib.Core.Path.{_≡_, refl, sym, ap, _∙_}
+use mathlib.Core.Logic.{⊎-elim}
 use mathlib.Core.Bool.{Bool, true, false, _&&_, cond, and-false}
 use mathlib.Core.List.{List, [], _∷_, _++_, reverse, reverse-append, reverse-reverse, append-cancel-right}
 use Prim.Native.Nat.{ℕ, suc, _+_, _-_, _≤_, _<_}
 use native.Mathlib.Numerals.{add-one}
 use native.Mathlib.Omega.{arith}
-use lib.Dec.{eqb, leb}
+use lib.Dec.{eqb}
 use lib.ListN.{length, getD, take, drop, length-drop, take-append-drop}
 use lib.Seq.{drop-cons, drop-length, drop-drop, take-all, take-suc}
+use borrow.Author.Tests.{eq-eqb, ne-eqb}
 use Rattle.masks.specs.Text.{takeWhile, dropWhile, every, same}
+use Rattle.masks.proofs.ListLaws.{split}
 
 -- ---- lists
 
@@ -45,24 +48,12 @@ same-nil (x ∷ xs) h = absurd (omega arith)
 
 -- ---- a scan from the front
 
--- a byte that a flavor's text may have
-abbrev pub ascii : ℕ → Bool
-ascii c = leb c 127
-
 pub drop-end : (t : List ℕ) (i : ℕ) → i ≡ length t → drop i t ≡ []
 drop-end t i e = rw e (drop-length t)
 
 module _ (p : ℕ → Bool) (t : List ℕ) where
   -- at i, where the test holds and where it does not
   module _ (i : ℕ) (h : i < length t) where
-    drops-on : p (getD t i 0) ≡ true → dropWhile p (drop i t) ≡ dropWhile p (drop (i + 1) t)
-    unfolding dropWhile
-    drops-on e = rw (drop-cons t i 0 h, e, add-one i)
-
-    drops-none : p (getD t i 0) ≡ false → dropWhile p (drop i t) ≡ drop i t
-    unfolding dropWhile
-    drops-none e = rw (drop-cons t i 0 h, e)
-
     pub every-on : p (getD t i 0) ≡ true → every p (drop i t) ≡ every p (drop (i + 1) t)
     unfolding every
     every-on e = rw (drop-cons t i 0 h, e, add-one i)
@@ -71,35 +62,9 @@ module _ (p : ℕ → Bool) (t : List ℕ) where
     unfolding every
     every-not e = rw (drop-cons t i 0 h, e)
 
-  drops-end : (i : ℕ) → i ≡ length t → dropWhile p (drop i t) ≡ drop i t
-  unfolding dropWhile
-  drops-end i e = rw (drop-end t i e)
-
   pub every-end : (i : ℕ) → i ≡ length t → every p (drop i t) ≡ true
   unfolding every
   every-end i e = rw (drop-end t i e)
-
--- a scan from `at` that has come to i: what is to be dropped from i on is what is to be dropped from `at` on
-pub record Scanned (p : ℕ → Bool) (t : List ℕ) (at i : ℕ) : Type 0 where
-  pub from : at ≤ i
-  pub within : i ≤ length t
-  pub drops : dropWhile p (drop i t) ≡ dropWhile p (drop at t)
-
--- a scan that has ended at r
-pub record Scan (p : ℕ → Bool) (t : List ℕ) (at r : ℕ) : Type 0 where
-  pub from : at ≤ r
-  pub within : r ≤ length t
-  pub dropped : drop r t ≡ dropWhile p (drop at t)
-
-module _ (p : ℕ → Bool) (t : List ℕ) (at i : ℕ) where
-  pub scan-on : Scanned p t at i → i < length t → p (getD t i 0) ≡ true → Scanned p t at (i + 1)
-  scan-on s h e = record { from = omega arith; within = omega arith; drops = sym (drops-on p t i h e) ∙ s .drops }
-
-  pub scan-stop : Scanned p t at i → i < length t → p (getD t i 0) ≡ false → Scan p t at i
-  scan-stop s h e = record { from = s .from; within = s .within; dropped = sym (drops-none p t i h e) ∙ s .drops }
-
-  pub scan-end : Scanned p t at i → length t ≤ i → Scan p t at i
-  scan-end s h = record { from = s .from; within = s .within; dropped = sym (drops-end p t i (omega arith)) ∙ s .drops }
 
 -- what is taken and what is dropped make up the whole
 take-drop : (p : ℕ → Bool) (l : List ℕ) → takeWhile p l ++ dropWhile p l ≡ l
@@ -111,13 +76,61 @@ take-drop p (x ∷ xs) = go (p x) (take-drop p xs)
     go true e = ap (λ (l : List ℕ). x ∷ l) e
     go false e = refl
 
--- so what a scan has passed is what is taken
-pub scan-taken : (p : ℕ → Bool) (t : List ℕ) (at r : ℕ) → Scan p t at r → take (r - at) (drop at t) ≡ takeWhile p (drop at t)
-scan-taken p t at r s =
-    let k : at + (r - at) ≡ r = omega arith in
-    let d : drop (r - at) (drop at t) ≡ dropWhile p (drop at t) = drop-drop (r - at) at t ∙ rw k (s .dropped) in
-    append-cancel-right (take (r - at) (drop at t)) (takeWhile p (drop at t)) (dropWhile p (drop at t))
-    (rw (← d) (take-append-drop (r - at) (drop at t)) ∙ sym (take-drop p (drop at t)))
+-- a scan from `at` that has come to i: what is to be dropped from i on is what is to be dropped from `at` on
+pub record Scanned (p : ℕ → Bool) (t : List ℕ) (at i : ℕ) : Type 0 where
+  pub from : at ≤ i
+  pub within : i ≤ length t
+  pub drops : dropWhile p (drop i t) ≡ dropWhile p (drop at t)
+
+-- a scan that has stopped at r: what it has passed is what is taken, and what is left is what dropping leaves
+abbrev pub Stopped : (p : ℕ → Bool) (t : List ℕ) (at r : ℕ) → Type 0
+Stopped p t at r = (at ≤ r) × (r ≤ length t) × (drop r t ≡ dropWhile p (drop at t)) × (take (r - at) (drop at t) ≡ takeWhile p (drop at t))
+
+module _ (p : ℕ → Bool) (t : List ℕ) (at i : ℕ) (s : Scanned p t at i) where
+  stopped : dropWhile p (drop i t) ≡ drop i t → Stopped p t at i
+  stopped e =
+      let l : drop i t ≡ dropWhile p (drop at t) = sym e ∙ s .drops in
+      let k : at + (i - at) ≡ i = omega arith in
+      let d : drop (i - at) (drop at t) ≡ dropWhile p (drop at t) = drop-drop (i - at) at t ∙ rw k l in (
+        s .from,
+        s .within,
+        l,
+        append-cancel-right (take (i - at) (drop at t)) (takeWhile p (drop at t)) (dropWhile p (drop at t))
+            (rw (← d) (take-append-drop (i - at) (drop at t)) ∙ sym (take-drop p (drop at t))),
+      )
+
+  module _ (h : i < length t) where
+    pub scan-on : p (getD t i 0) ≡ true → Scanned p t at (i + 1)
+    unfolding dropWhile
+    scan-on e =
+        let d : dropWhile p (drop i t) ≡ dropWhile p (drop (i + 1) t) = rw (drop-cons t i 0 h, e, add-one i) in
+        record { from = omega arith; within = omega arith; drops = sym d ∙ s .drops }
+
+    pub scan-stop : p (getD t i 0) ≡ false → Stopped p t at i
+    unfolding dropWhile
+    scan-stop e = stopped (rw (drop-cons t i 0 h, e))
+
+  pub scan-end : length t ≤ i → Stopped p t at i
+  unfolding dropWhile
+  scan-end h = stopped (rw (drop-end t i (omega arith)))
+
+-- every byte passes where nothing is left
+module _ (p : ℕ → Bool) where
+  none-left : (t : List ℕ) → same (dropWhile p t) [] ≡ every p t
+  unfolding same dropWhile every
+  none-left [] = refl
+  none-left (x ∷ xs) = go (p x) (none-left xs)
+    where
+      go : (b : Bool) → same (dropWhile p xs) [] ≡ every p xs → same (cond b (dropWhile p xs) (x ∷ xs)) [] ≡ (b && every p xs)
+      go true e = e
+      go false e = refl
+
+  pub stopped-every : (t : List ℕ) (r : ℕ) → r ≤ length t → drop r t ≡ dropWhile p t → eqb r (length t) ≡ every p t
+  stopped-every t r h d =
+      let k : same (drop r t) [] ≡ every p t = ap (λ (l : List ℕ). same l []) d ∙ none-left t in
+      ⊎-elim (λ (a : r < length t). rw (ne-eqb r (length t) (λ e. omega arith)) (sym (same-not (drop r t) [] (λ e. omega (arith, length-drop r t))) ∙ k))
+      (λ (a : length t ≤ r). rw (eq-eqb r (length t) (omega arith)) (sym (same-nil (drop r t) (omega (arith, length-drop r t))) ∙ k))
+      (split r (length t))
 
 -- ---- a scan from the back
 

@@ -3,7 +3,7 @@ use mathlib.Core.Path.{_≡_, refl, sym, ap, _∙_}
 use mathlib.Core.Logic.{⊎-elim}
 use mathlib.Core.Bool.{Bool, true, false, _&&_, and-true, and-false, and-assoc, and-comm}
 use mathlib.Core.List.{List, [], _∷_, _++_, reverse, reverseAux, append-nil, append-assoc, reverse-append, reverse-reverse}
-use Prim.Native.Nat.{ℕ, zero, suc, _+_, _-_, _/_, _%_, _≤_, _<_}
+use Prim.Native.Nat.{ℕ, zero, suc, _+_, _/_, _%_, _≤_, _<_}
 use native.Mathlib.Omega.{arith}
 use lib.Dec.{leb}
 use lib.ListN.{length, length-reverse}
@@ -16,10 +16,13 @@ use Rattle.masks.specs.declared.text.Octet.the-variants.{Is, Missing}
 use Rattle.masks.specs.Outcome.{refusal, noRoom, unless, Written, refusedList, listed}
 use Rattle.masks.specs.Text.{blank, separator, inPart, decimalDigit, takeWhile, dropWhile, every, same, decimalValue, unsigned, octetOf, octet, orZero, part, afterPart, specOf, readAs, refusedRead, decimal, spaced, textOf, trimmed, readCl, readFlavor, writeFlavor, vga}
 use Rattle.masks.proofs.ListLaws.{split}
-use Rattle.masks.proofs.ScanLaws.{ascii}
 use Rattle.masks.proofs.TextLaws.{decimal-long, decimal-one, decimal-three, decimal-two, digit-in, octet-is, one-length, spec-read, text-one, text-three, text-two, three-length, two-length}
 
 -- ---- words of digits
+
+-- a byte that a flavor's text may have
+abbrev ascii : ℕ → Bool
+ascii c = leb c 127
 
 and-both : (a b : Bool) → (a && b) ≡ true → (a ≡ true) × (b ≡ true)
 and-both true b e = (refl, e)

@@ -22,7 +22,7 @@ use Rattle.masks.specs.Order.{order, size, start, rank, place, held, mas
 use Rattle.masks.specs.Outcome.{Outcome, shapeOf, refusal, unless, laid, refusedList, listed, countOf}
 use Rattle.masks.specs.Flavors.{addedDims}
 use Rattle.masks.specs.Shapes.{nought, coef, moved, getBlade, gradeRefusal, gradePart}
-use Rattle.masks.specs.Build.{padded, atGrade, vector, n1Blades, scalar, pseudoscalar, packing, ofParity, spread, bladesOf}
+use Rattle.masks.specs.Build.{padded, atGrade, oneGrade, vector, n1Blades, scalar, pseudoscalar, packing, ofParity, spread, bladesOf}
 use Rattle.masks.specs.Unpack.{choose, halfMasks, unpackRefusal, unpackAll, halfOf, unpackHalf, unpackOwnHalf, unpackVector}
 use Rattle.masks.proofs.OrderLaws.{length-order, size-zero, grade-has, place-lt, order-place, order-at, blades-le, take-masks}
 use Rattle.masks.proofs.RefusalLaws.{unless-done}
@@ -30,7 +30,7 @@ use Rattle.masks.proofs.ShapeLaws.{holds-masks, coef-inside, coef-outsi
 use Rattle.masks.proofs.ChangeLaws.{passes}
 use Rattle.masks.proofs.BladeLaws.{get-blade-done}
 use Rattle.masks.proofs.BuildLaws.{padded-at, lt-blades, start-one, size-one, size-last, size-before-last, grade-fits, vector-fits, length-grade-set, choose-has, choose-lacks, choose-le, choose-next, choose-skip, half-count}
-use Rattle.masks.proofs.BuildLaws.{half-twice, half-some, length-half-set, spread-has, spread-lacks, Packs, packing-fits, vector-built, n1-built, scalar-built, pseudoscalar-built, full-built, half-built, grade-built}
+use Rattle.masks.proofs.BuildLaws.{half-twice, half-some, length-half-set, spread-has, spread-lacks, Packs, packing-fits, one-built, n1-one, full-built, half-built, grade-built}
 
 -- ---- masks chosen one after the other
 
@@ -280,13 +280,6 @@ single-back d g m x h e s =
     let r : rank d g m ≡ 0 = omega (arith, grade-has d g m h e .inside) in
     coef-inside d m (atGrade d g (x ∷ [])) h ∙ padded-at (start d g) (x ∷ []) (2 ^ d) (place d m) 0 (rw (e, r)) (omega arith)
 
-pub scalar-back : (d : ℕ) (x : Float) → coef d (atGrade d 0 (x ∷ [])) 0 ≡ x
-unfolding ones onesIn
-scalar-back d x = single-back d 0 0 x (pow-pos d) refl (size-zero d)
-
-pub pseudoscalar-back : (d : ℕ) (x : Float) → coef d (atGrade d d (x ∷ [])) (2 ^ d - 1) ≡ x
-pseudoscalar-back d x = single-back d d (2 ^ d - 1) x (ones-lt d) (ones-ones d) (size-last d)
-
 -- ---- no dimensions
 
 -- at 0 dimensions that are stated, the scalar
@@ -308,40 +301,53 @@ module _ (f : Flavor) (x : Float) (into : ℕ) (m : 1 ≤ into) where
 
 -- ---- what was built is read back: the outcomes of calls that are not refused
 
+-- A grade that was built is read back, and where it has one number, that is read back at its mask.
+module _ (n g : ℕ) (f : Flavor) (room : ℕ) (h : n ≤ 9) (l : 2 ^ n ≤ room) (i : g ≤ n) where
+  pub part-round : (v : List Float) → size n g ≡ length v → gradePart (oneGrade n g v f room .shape) g (oneGrade n g v f room .coefs) ≡ v
+  part-round v e = rw (one-built n g v f room h l) (part-back n g v f h i e)
+
+  pub single-round : (m : ℕ) (x : Float) → m < 2 ^ n → ones m ≡ g → size n g ≡ 1 → getBlade (oneGrade n g (x ∷ []) f room .shape) m (oneGrade n g (x ∷ []) f room .coefs) ≡ record { number = 0; value = x }
+  single-round m x b o e =
+      rw (one-built n g (x ∷ []) f room h l)
+      (get-blade-done (shapeOf n f) m (atGrade n g (x ∷ [])) (record { small = h; counted = length-one n g x i e }) ∙ rw (single-back n g m x b o e))
+
 module _ (v : List Float) (f : Flavor) (room : ℕ) (h : length v ≤ 9) (l : 2 ^ length v ≤ room) where
   pub vector-round : (into : ℕ) → length v ≤ into → unpackVector (vector v f room .shape) (vector v f room .coefs) into ≡ listed v
+  unfolding vector
   vector-round into m =
-      rw (vector-built v f room h l)
+      rw (one-built (length v) 1 v f room h l)
       (vector-unpacked (shapeOf (length v) f) (atGrade (length v) 1 v) h (length-grade-set (length v) 1 v (vector-fits (length v))) into m ∙ ap listed (vector-back v))
 
   pub n1-round : 2 ≤ length v → gradePart (n1Blades v f room .shape) (length v - 1) (n1Blades v f room .coefs) ≡ v
   n1-round m =
-      rw (n1-built v f room h l m) (part-back (length v) (length v - 1) v f h (omega arith) (size-before-last (length v) (omega arith)))
+      rw (n1-one v f room m) (part-round (length v) (length v - 1) f room h l (omega arith) v (size-before-last (length v) (omega arith)))
 
 module _ (d : ℕ) (x : Float) (f : Flavor) (room : ℕ) (h : d + addedDims f ≤ 9) (l : 2 ^ (d + addedDims f) ≤ room) where
   abbrev n : ℕ
   n = d + addedDims f
 
   pub scalar-round : getBlade (scalar d x f room .shape) 0 (scalar d x f room .coefs) ≡ record { number = 0; value = x }
-  scalar-round =
-      rw (scalar-built d x f room h l) (get-blade-done (shapeOf n f) 0 (atGrade n 0 (x ∷ [])) (record { small = h; counted = length-one n 0 x (omega arith) (size-zero n) }) ∙ rw (scalar-back n x))
+  unfolding scalar ones onesIn
+  scalar-round = single-round n 0 f room h l (omega arith) 0 x (pow-pos n) refl (size-zero n)
+
+  pub scalar-part : gradePart (scalar d x f room .shape) 0 (scalar d x f room .coefs) ≡ x ∷ []
+  unfolding scalar
+  scalar-part = part-round n 0 f room h l (omega arith) (x ∷ []) (size-zero n)
+
+  pub pseudoscalar-round : getBlade (pseudoscalar d x f room .shape) (2 ^ n - 1) (pseudoscalar d x f room .coefs) ≡ record { number = 0; value = x }
+  unfolding pseudoscalar
+  pseudoscalar-round = single-round n n f room h l (omega arith) (2 ^ n - 1) x (ones-lt n) (ones-ones n) (size-last n)
+
+  pub pseudoscalar-part : gradePart (pseudoscalar d x f room .shape) n (pseudoscalar d x f room .coefs) ≡ x ∷ []
+  unfolding pseudoscalar
+  pseudoscalar-part = part-round n n f room h l (omega arith) (x ∷ []) (size-last n)
 
   -- at 0 dimensions that are stated, the scalar
   pub scalar-unpacked : (odd into : ℕ) → 1 ≤ into → unpackHalf odd (scalar d x f room .shape) 0 (scalar d x f room .coefs) into ≡ listed (x ∷ [])
+  unfolding scalar ones onesIn
   scalar-unpacked odd into m =
-      rw (scalar-built d x f room h l)
-      (stated-none (shapeOf n f) (atGrade n 0 (x ∷ [])) odd into h (length-one n 0 x (omega arith) (size-zero n)) m ∙ rw (scalar-back n x))
-
-  pub scalar-part : gradePart (scalar d x f room .shape) 0 (scalar d x f room .coefs) ≡ x ∷ []
-  scalar-part = rw (scalar-built d x f room h l) (part-back n 0 (x ∷ []) f h (omega arith) (size-zero n))
-
-  pub pseudoscalar-round : getBlade (pseudoscalar d x f room .shape) (2 ^ n - 1) (pseudoscalar d x f room .coefs) ≡ record { number = 0; value = x }
-  pseudoscalar-round =
-      rw (pseudoscalar-built d x f room h l)
-      (get-blade-done (shapeOf n f) (2 ^ n - 1) (atGrade n n (x ∷ [])) (record { small = h; counted = length-one n n x (omega arith) (size-last n) }) ∙ rw (pseudoscalar-back n x))
-
-  pub pseudoscalar-part : gradePart (pseudoscalar d x f room .shape) n (pseudoscalar d x f room .coefs) ≡ x ∷ []
-  pseudoscalar-part = rw (pseudoscalar-built d x f room h l) (part-back n n (x ∷ []) f h (omega arith) (size-last n))
+      rw (one-built n 0 (x ∷ []) f room h l)
+      (stated-none (shapeOf n f) (atGrade n 0 (x ∷ [])) odd into h (length-one n 0 x (omega arith) (size-zero n)) m ∙ rw (single-back n 0 0 x (pow-pos n) refl (size-zero n)))
 
 -- blades on the left (0), with even unpacking, and on the right (1), with odd unpacking
 module _ (odd d : ℕ) (v : List Float) (f : Flavor) (room : ℕ) (h : d ≤ 9) (l : 2 ^ d ≤ room) where

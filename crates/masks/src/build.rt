@@ -16,16 +16,14 @@ use super::outcome::done;
 use super::outcome::refused;
 use super::outcome::shape_of;
 ghost use mathlib.Core.Path.{_≡_};
-ghost use mathlib.Core.Bool.{cond};
 ghost use Prim.Native.Nat.{ℕ, _+_, _-_, _*_, _≤_, _<_, _^_};
-ghost use lib.Dec.{ltb};
 ghost use lib.Ieee.{nan};
 ghost use lib.ListN.{length, take, getD};
 ghost use Rattle.masks.specs.Order.{start, order};
 ghost use Rattle.masks.specs.Outcome.{Gives, laid};
 ghost use Rattle.masks.specs.Flavors.{addedDims};
 ghost use Rattle.masks.specs.Unpack.{choose};
-ghost use Rattle.masks.specs.Build.{padded, atGrade, builtRefusal, vector, n1Blades, scalar, pseudoscalar, firstGrade, packing, spread, bladesOf};
+ghost use Rattle.masks.specs.Build.{padded, atGrade, builtRefusal, oneGrade, vector, n1Blades, scalar, pseudoscalar, firstGrade, packing, spread, bladesOf};
 
 // How some numbers fill a value.
 pub enum Packing {
@@ -81,17 +79,25 @@ fn built_refusal(dims: usize, room: usize) -> u8
     DONE
 }
 
+// A value of some dimensions: one grade is v, and the others are +0.
+fn one_grade(dims: usize, grade: usize, v: &[f64], flavor: Flavor, out: &mut [f64]) -> Answer
+    requires { ⌜ (grade ≤ dims + 1) × (start dims grade + length (now v) ≤ 2 ^ dims) ⌝ }
+    ensures { λ r. ⌜ Gives (oneGrade dims grade (now (v .entry)) flavor (length (now (out .entry)))) r (now (out .entry)) (now (out .exit)) ⌝ }
+{
+    let no = built_refusal(dims, out.len());
+    if no != DONE {
+        return refused(no);
+    }
+    let n = dims as u8;
+    fill_grade(n, grade as u8, v, out);
+    done(shape_of(n, flavor))
+}
+
 // A value whose vector is v.
 pub fn vector(v: &[f64], flavor: Flavor, out: &mut [f64]) -> Answer
     ensures { λ r. ⌜ Gives (vector (now (v .entry)) flavor (length (now (out .entry)))) r (now (out .entry)) (now (out .exit)) ⌝ }
 {
-    let no = built_refusal(v.len(), out.len());
-    if no != DONE {
-        return refused(no);
-    }
-    let dims = v.len() as u8;
-    fill_grade(dims, 1, v, out);
-    done(shape_of(dims, flavor))
+    one_grade(v.len(), 1, v, flavor, out)
 }
 
 // A value whose grade below the last is v.
@@ -102,23 +108,14 @@ pub fn n_1_blades(v: &[f64], flavor: Flavor, out: &mut [f64]) -> Answer
     if n < 2 {
         return refused(WRONG_COUNT);
     }
-    let no = built_refusal(n, out.len());
-    if no != DONE {
-        return refused(no);
-    }
-    let dims = n as u8;
-    fill_grade(dims, dims - 1, v, out);
-    done(shape_of(dims, flavor))
+    one_grade(n, n - 1, v, flavor, out)
 }
 
-// The dimensions of a value of a flavor that is built at `dims`: 10 where they are above 9.
-fn built_dims(dims: u8, flavor: Flavor) -> u8
-    ensures { λ r. ⌜ r ≡ cond (ltb 9 dims) 10 (dims + addedDims flavor) ⌝ }
+// The dimensions of a scalar or a pseudoscalar of a flavor at `dims`.
+fn built_dims(dims: u8, flavor: Flavor) -> usize
+    ensures { λ r. ⌜ r ≡ dims + addedDims flavor ⌝ }
 {
-    if MAX_DIMS < dims {
-        return 10;
-    }
-    dims + flavor.added_dims()
+    dims as usize + flavor.added_dims() as usize
 }
 
 // A scalar, with a dimension more under Projective.
@@ -126,13 +123,7 @@ pub fn scalar(dims: u8, x: f64, flavor: Flavor, out: &mut [f64]) -> Answer
     ensures { λ r. ⌜ Gives (scalar dims x flavor (length (now (out .entry)))) r (now (out .entry)) (now (out .exit)) ⌝ }
 {
     let n = built_dims(dims, flavor);
-    let no = built_refusal(n as usize, out.len());
-    if no != DONE {
-        return refused(no);
-    }
-    let v = [x];
-    fill_grade(n, 0, &v, out);
-    done(shape_of(n, flavor))
+    one_grade(n, 0, &[x], flavor, out)
 }
 
 // A pseudoscalar, with a dimension more under Projective.
@@ -140,13 +131,7 @@ pub fn pseudoscalar(dims: u8, x: f64, flavor: Flavor, out: &mut [f64]) -> Answer
     ensures { λ r. ⌜ Gives (pseudoscalar dims x flavor (length (now (out .entry)))) r (now (out .entry)) (now (out .exit)) ⌝ }
 {
     let n = built_dims(dims, flavor);
-    let no = built_refusal(n as usize, out.len());
-    if no != DONE {
-        return refused(no);
-    }
-    let v = [x];
-    fill_grade(n, n, &v, out);
-    done(shape_of(n, flavor))
+    one_grade(n, n, &[x], flavor, out)
 }
 
 // The first grade of n numbers from `from` on and below `end`.

@@ -16,8 +16,10 @@ use super::outcome::refusal_of;
 use super::outcome::refused;
 use super::outcome::refused_pair;
 ghost use mathlib.Core.Path.{_≡_};
+ghost use mathlib.Core.Bool.{cond};
 ghost use mathlib.Core.List.{[], _∷_};
-ghost use Prim.Native.Nat.{_^_, max};
+ghost use Prim.Native.Nat.{_+_, _^_, _≤_, max};
+ghost use lib.Dec.{ltb};
 ghost use lib.ListN.{length};
 ghost use Rattle.masks.specs.Outcome.{Gives, GivesBoth, refusal, tooMany, wrongCount, noRoom};
 ghost use Rattle.masks.specs.Shapes.{withDims, withFlavor, promotes, conformedShape, setDims, setFlavor, conformTo, conform};
@@ -42,7 +44,18 @@ pub(crate) fn promotion(f: Flavor, g: Flavor) -> u8
     }
 }
 
-pub(crate) fn larger(a: u8, b: u8) -> u8
+// The dimensions of a value promoted by `up`, 0 or 1: 10 where they are above 9 already, which is refused.
+fn promoted_dims(dims: u8, up: u8) -> u8
+    requires { ⌜ up ≤ 1 ⌝ }
+    ensures { λ r. ⌜ r ≡ cond (ltb 9 dims) 10 (dims + up) ⌝ }
+{
+    if MAX_DIMS < dims {
+        return 10;
+    }
+    dims + up
+}
+
+fn larger(a: u8, b: u8) -> u8
     ensures { λ r. ⌜ r ≡ max a b ⌝ }
 {
     if a < b { b } else { a }
@@ -130,12 +143,9 @@ impl Shape {
         ensures { λ r. ⌜ Gives (setFlavor self flavor (now (a .entry)) (length (now (out .entry)))) r (now (out .entry)) (now (out .exit)) ⌝ }
     {
         let dims = self.dims;
-        if MAX_DIMS < dims {
-            return refused(TOO_MANY_DIMS);
-        }
         let own = self.flavor;
         let up = promotion(own, flavor);
-        let n = dims + up;
+        let n = promoted_dims(dims, up);
         let no = refusal_of(dims, n, a.len(), out.len(), blade_count(n));
         if no != DONE {
             return refused(no);
@@ -149,13 +159,10 @@ impl Shape {
         ensures { λ r. ⌜ Gives (conformTo self other (now (a .entry)) (length (now (out .entry)))) r (now (out .entry)) (now (out .exit)) ⌝ }
     {
         let dims = self.dims;
-        if MAX_DIMS < dims {
-            return refused(TOO_MANY_DIMS);
-        }
         let own = self.flavor;
         let theirs = other.flavor;
         let up = promotion(own, theirs);
-        let n = larger(dims + up, other.dims);
+        let n = larger(promoted_dims(dims, up), other.dims);
         let no = refusal_of(dims, n, a.len(), out.len(), blade_count(n));
         if no != DONE {
             return refused(no);
@@ -177,17 +184,11 @@ impl Shape {
     {
         let dims = self.dims;
         let dims_right = other.dims;
-        if MAX_DIMS < dims {
-            return refused_pair(TOO_MANY_DIMS);
-        }
-        if MAX_DIMS < dims_right {
-            return refused_pair(TOO_MANY_DIMS);
-        }
         let own = self.flavor;
         let theirs = other.flavor;
         let up = promotion(own, theirs);
         let up_right = promotion(theirs, own);
-        let n = larger(dims + up, dims_right + up_right);
+        let n = larger(promoted_dims(dims, up), promoted_dims(dims_right, up_right));
         let no = conform_refusal(
             dims,
             dims_right,

@@ -12,12 +12,20 @@ ghost use lib.Dec.{leb};
 ghost use lib.ListN.{length, take, drop};
 ghost use lib.Seq.{sets};
 ghost use Rattle.masks.specs.Outcome.{Writes, laid};
-ghost use Rattle.masks.specs.Text.{blank, separator, inPart, takeWhile, dropWhile, every, same, trimmed, part, afterPart, octetOf, octet, orZero, specOf, readCl, readFlavor, decimal, textOf, writeFlavor, refusedRead, readAs};
+ghost use Rattle.masks.specs.Text.{blank, separator, passes, takeWhile, dropWhile, every, same, trimmed, part, afterPart, octetOf, octet, orZero, specOf, readCl, readFlavor, decimal, textOf, writeFlavor, refusedRead, readAs};
 
 // A part as a u8.
 pub enum Octet {
     Is(u8),
     Missing,
+}
+
+// What a byte is tested for: that it is at most 127, a blank, a separator, or a byte of a part.
+enum ByteTest {
+    Ascii,
+    Blank,
+    Separator,
+    InPart,
 }
 
 // A flavor that was read; Vanilla where it is refused.
@@ -66,32 +74,37 @@ fn is_separator(c: u8) -> bool
     c == 44
 }
 
-// Whether no byte is above 127.
-fn is_ascii(t: &[u8]) -> bool
-    ensures { λ r. ⌜ r ≡ every (λ c. leb c 127) (now (t .entry)) ⌝ }
+fn byte_passes(test: ByteTest, c: u8) -> bool
+    ensures { λ r. ⌜ r ≡ passes test c ⌝ }
 {
-    let mut i: usize = 0;
-    while i < t.len() {
-        if 127 < t[i] {
-            return false;
-        }
-        i += 1;
+    match test {
+        ByteTest::Ascii => c <= 127,
+        ByteTest::Blank => is_blank(c),
+        ByteTest::Separator => is_separator(c),
+        ByteTest::InPart => !is_separator(c),
     }
-    true
 }
 
-// Where the blanks at the front end.
-fn skip_blanks(t: &[u8]) -> usize
-    ensures { λ r. ⌜ (r ≤ length (now (t .entry))) × (drop r (now (t .entry)) ≡ dropWhile blank (now (t .entry))) ⌝ }
+// The first place from `at` on whose byte does not pass the test; the length where each does.
+fn skip(test: ByteTest, t: &[u8], at: usize) -> usize
+    requires { ⌜ at ≤ length (now t) ⌝ }
+    ensures { λ r. ⌜ (at ≤ r) × (r ≤ length (now (t .entry))) × (drop r (now (t .entry)) ≡ dropWhile (passes test) (drop at (now (t .entry)))) × (take (r - at) (drop at (now (t .entry))) ≡ takeWhile (passes test) (drop at (now (t .entry)))) ⌝ }
 {
-    let mut i: usize = 0;
+    let mut i = at;
     while i < t.len() {
-        if !is_blank(t[i]) {
+        if !byte_passes(test, t[i]) {
             return i;
         }
         i += 1;
     }
     i
+}
+
+// Whether no byte is above 127.
+fn is_ascii(t: &[u8]) -> bool
+    ensures { λ r. ⌜ r ≡ every (λ c. leb c 127) (now (t .entry)) ⌝ }
+{
+    skip(ByteTest::Ascii, t, 0) == t.len()
 }
 
 // Where the blanks at the back begin.
@@ -112,56 +125,26 @@ fn cut_blanks(t: &[u8]) -> usize
 fn trim(t: &[u8]) -> &[u8]
     ensures { λ r. ⌜ now r ≡ trimmed (now (t .entry)) ⌝ }
 {
-    let start = skip_blanks(t);
+    let start = skip(ByteTest::Blank, t, 0);
     let rest = &t[start..];
     let end = cut_blanks(rest);
     &rest[0..end]
-}
-
-// Where the separators from `at` on end.
-fn skip_separators(t: &[u8], at: usize) -> usize
-    requires { ⌜ at ≤ length (now t) ⌝ }
-    ensures { λ r. ⌜ (at ≤ r) × (r ≤ length (now (t .entry))) × (drop r (now (t .entry)) ≡ dropWhile separator (drop at (now (t .entry)))) ⌝ }
-{
-    let mut i = at;
-    while i < t.len() {
-        if !is_separator(t[i]) {
-            return i;
-        }
-        i += 1;
-    }
-    i
-}
-
-// Where the part that begins at `at` ends.
-fn skip_part(t: &[u8], at: usize) -> usize
-    requires { ⌜ at ≤ length (now t) ⌝ }
-    ensures { λ r. ⌜ (at ≤ r) × (r ≤ length (now (t .entry))) × (drop r (now (t .entry)) ≡ dropWhile inPart (drop at (now (t .entry)))) × (take (r - at) (drop at (now (t .entry))) ≡ takeWhile inPart (drop at (now (t .entry)))) ⌝ }
-{
-    let mut i = at;
-    while i < t.len() {
-        if is_separator(t[i]) {
-            return i;
-        }
-        i += 1;
-    }
-    i
 }
 
 // The first part that is not empty, and what follows it.
 fn first_part(t: &[u8]) -> &[u8]
     ensures { λ r. ⌜ now r ≡ part (now (t .entry)) ⌝ }
 {
-    let start = skip_separators(t, 0);
-    let end = skip_part(t, start);
+    let start = skip(ByteTest::Separator, t, 0);
+    let end = skip(ByteTest::InPart, t, start);
     &t[start..end]
 }
 
 fn after_part(t: &[u8]) -> &[u8]
     ensures { λ r. ⌜ now r ≡ afterPart (now (t .entry)) ⌝ }
 {
-    let start = skip_separators(t, 0);
-    let end = skip_part(t, start);
+    let start = skip(ByteTest::Separator, t, 0);
+    let end = skip(ByteTest::InPart, t, start);
     &t[end..]
 }
 

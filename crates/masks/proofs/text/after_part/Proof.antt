@@ -6,11 +6,11 @@ use Rattle.masks.proofs.ScanLaws.{rest-all}
 use Rattle.masks.proofs.text.after_part.Statement.{statement}
 use Rattle.masks.proofs.text.after_part.Tie as tie
 
-skip-separators-requires : tie.Need-skip-separators-requires
-skip-separators-requires c κs = search needs
+skip-requires : tie.Need-skip-requires
+skip-requires c κs = search needs
 
-skip-part-requires : tie.Need-skip-part-requires
-skip-part-requires c κs = search needs
+skip-requires-2 : tie.Need-skip-requires-2
+skip-requires-2 c κs = search needs
 
 sub-result : tie.Need-sub-result
 sub-result c = search needs
@@ -24,16 +24,16 @@ part-result-end c = search needs
 returns : tie.Need-returns
 unfolding afterPart
 returns c =
-    rest-all (c .before .skip-part .result) (c .before .before .before .before .args .t .now)
-    ∙ c .before .skip-part .ensures .2
-    ∙ (rw (c .before .before .skip-separators .ensures .2))
+    rest-all (c .before .skip2 .result) (c .before .before .before .before .args .t .now)
+    ∙ c .before .skip2 .ensures .2
+    ∙ (rw (c .before .before .skip .ensures .2))
 
 pub after-part-spec : {M : Type 1} → statement M
 after-part-spec =
     tie.close
     (tie.spec
-    skip-separators-requires
-    skip-part-requires
+    skip-requires
+    skip-requires-2
     sub-result
     part-result-start
     part-result-end

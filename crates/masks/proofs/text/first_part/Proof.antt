@@ -5,11 +5,11 @@ use Rattle.masks.specs.Text.{part}
 use Rattle.masks.proofs.text.first_part.Statement.{statement}
 use Rattle.masks.proofs.text.first_part.Tie as tie
 
-skip-separators-requires : tie.Need-skip-separators-requires
-skip-separators-requires c κs = search needs
+skip-requires : tie.Need-skip-requires
+skip-requires c κs = search needs
 
-skip-part-requires : tie.Need-skip-part-requires
-skip-part-requires c κs = search needs
+skip-requires-2 : tie.Need-skip-requires-2
+skip-requires-2 c κs = search needs
 
 sub-result : tie.Need-sub-result
 sub-result c = search needs
@@ -22,14 +22,14 @@ part-result-end c = search needs
 
 returns : tie.Need-returns
 unfolding part
-returns c = c .before .skip-part .ensures .3 ∙ (rw (c .before .before .skip-separators .ensures .2))
+returns c = c .before .skip2 .ensures .3 ∙ (rw (c .before .before .skip .ensures .2))
 
 pub first-part-spec : {M : Type 1} → statement M
 first-part-spec =
     tie.close
     (tie.spec
-    skip-separators-requires
-    skip-part-requires
+    skip-requires
+    skip-requires-2
     sub-result
     part-result-start
     part-result-end

@@ -14,8 +14,8 @@ cut : (t : List ℕ) (s e : ℕ) → drop s t ≡ dropWhile blank t → take e (
 unfolding trimmed
 cut t s e h g = rw (sub-zero e) (g ∙ (rw (rest-all s t, h)))
 
-skip-blanks-requires : tie.Need-skip-blanks-requires
-skip-blanks-requires c κs = search needs
+skip-requires : tie.Need-skip-requires
+skip-requires c κs = search needs
 
 sub-rest : tie.Need-sub-rest
 sub-rest c = search needs
@@ -41,13 +41,13 @@ part-result-end c = search needs
 returns : tie.Need-returns
 returns c =
     let s = c .before .before .before in
-    cut (s .before .before .args .t .now) (s .skip-blanks .result) (c .before .cut-blanks .result) (s .skip-blanks .ensures .1) (c .before .cut-blanks .ensures .1)
+    cut (s .before .before .args .t .now) (s .skip .result) (c .before .cut-blanks .result) (s .skip .ensures .2) (c .before .cut-blanks .ensures .1)
 
 pub trim-spec : {M : Type 1} → statement M
 trim-spec =
     tie.close
     (tie.spec
-    skip-blanks-requires
+    skip-requires
     sub-rest
     part-rest-start
     part-rest-end

@@ -1,4 +1,4 @@
--- `masks::shape::Shape::conform_to` meets its contract: the code's number and dimensions are the definition's, and what is not refused is conformed. Assumes nothing.
+-- `masks::shape::Shape::conform_to` meets its contract: the code's number is the definition's, and what is not refused is conformed. Assumes nothing.
 use mathlib.Core.Path.{_≡_, sym, ap, ap₂, _∙_}
 use Prim.Native.Nat.{ℕ, _+_, _^_, _≤_, max}
 use native.Mathlib.Omega.{arith}
@@ -7,27 +7,20 @@ use lib.ListN.{length}
 use Rattle.masks.specs.Outcome.{refusal, laid}
 use Rattle.masks.specs.Shapes.{promotes, conformed, conformedShape, conformTo}
 use Rattle.masks.proofs.RefusalLaws.{Taken, taken, gives-refused, gives-done}
-use Rattle.masks.proofs.ChangeLaws.{promotes-le, checks, checked, first-refused}
+use Rattle.masks.proofs.ChangeLaws.{promotes-le, promoted-small, checks, checked, checks-same}
 use Rattle.masks.proofs.shape.Shape.conform_to.Statement.{statement}
 use Rattle.masks.proofs.shape.Shape.conform_to.Tie as tie
-
-refused-requires : tie.Need-refused-requires
-refused-requires c κs = search needs
-
-returns : tie.Need-returns
-unfolding conformTo
-returns c = first-refused (c .before .before .before .before .args .self .dims) _ _ _ _ (c .before .if1 .taken) (c .refused .ensures)
 
 promotion-requires : tie.Need-promotion-requires
 promotion-requires c κs = search needs
 
 few : (c : tie.After-promotion) → c .promotion .result ≤ 1
 few c =
-    let s = c .before .before .before .before .args in
+    let s = c .before .before .before .args in
     omega (arith, c .promotion .ensures, promotes-le (s .self .flavor) (s .other .flavor))
 
-add-larger : tie.Need-add-larger
-add-larger c = omega (arith, few c)
+promoted-dims-requires : tie.Need-promoted-dims-requires
+promoted-dims-requires c κs = few c
 
 larger-requires : tie.Need-larger-requires
 larger-requires c κs = search needs
@@ -38,46 +31,57 @@ blade-count-requires c κs = search needs
 refusal-of-requires : tie.Need-refusal-of-requires
 refusal-of-requires c κs = search needs
 
-refused-requires-2 : tie.Need-refused-requires-2
-refused-requires-2 c κs = search needs
+refused-requires : tie.Need-refused-requires
+refused-requires c κs = search needs
 
--- the code's number is the definition's
+-- The code's number is the definition's.
 module _ (c : tie.After-refusal-of) where
   abbrev l : tie.After-larger
   l = c .before .before
 
   abbrev p : tie.After-promotion
-  p = l .before
+  p = l .before .before
 
   abbrev s : tie.Start
-  s = p .before .before .before .before
+  s = p .before .before .before
+
+  abbrev own : ℕ
+  own = s .args .self .dims
 
   abbrev dims : ℕ
-  dims = max (s .args .self .dims + promotes (s .args .self .flavor) (s .args .other .flavor)) (s .args .other .dims)
+  dims = max (own + promotes (s .args .self .flavor) (s .args .other .flavor)) (s .args .other .dims)
 
-  same : l .larger .result ≡ dims
-  same = l .larger .ensures ∙ ap (λ u. max (s .args .self .dims + u) (s .args .other .dims)) (p .promotion .ensures)
+  grown : own ≤ 9 → l .before .promoted-dims .result ≡ own + p .promotion .result
+  grown = promoted-small own _ _ (l .before .promoted-dims .ensures)
 
-  number : c .refusal-of .result ≡ refusal (checks (s .args .self .dims) (l .larger .result) (length (s .args .a .now)) (length (s .args .out .now)) (2 ^ (l .larger .result)))
+  same : own ≤ 9 → l .larger .result ≡ dims
+  same h = l .larger .ensures ∙ ap (λ n. max n (s .args .other .dims)) (grown h ∙ ap (λ u. own + u) (p .promotion .ensures))
+
+  number : c .refusal-of .result ≡ refusal (checks own (l .larger .result) (length (s .args .a .now)) (length (s .args .out .now)) (2 ^ (l .larger .result)))
   number =
-      checked _ (s .args .self .dims) (l .larger .result) (length (s .args .a .now)) (length (s .args .out .now)) _ (c .refusal-of .ensures) (c .before .blade-count .ensures)
+      checked _ own (l .larger .result) (length (s .args .a .now)) (length (s .args .out .now)) _ (c .refusal-of .ensures) (c .before .blade-count .ensures)
 
-  numbered : c .refusal-of .result ≡ refusal (checks (s .args .self .dims) dims (length (s .args .a .now)) (length (s .args .out .now)) (2 ^ dims))
-  numbered =
-      number ∙ ap (λ n. refusal (checks (s .args .self .dims) n (length (s .args .a .now)) (length (s .args .out .now)) (2 ^ n))) same
+  numbered : c .refusal-of .result ≡ refusal (checks own dims (length (s .args .a .now)) (length (s .args .out .now)) (2 ^ dims))
+  numbered = number ∙ checks-same own (l .larger .result) dims (length (s .args .a .now)) (length (s .args .out .now)) same
 
-returns-2 : tie.Need-returns-2
+  abbrev Ok : Type 0
+  Ok = Taken own (l .larger .result) (length (s .args .a .now)) (length (s .args .out .now)) (2 ^ (l .larger .result))
+
+returns : tie.Need-returns
 unfolding conformTo
-returns-2 c = gives-refused _ _ _ _ _ (numbered (c .before .before)) (c .before .if2 .taken) (c .refused2 .ensures)
+returns c = gives-refused _ _ _ _ _ (numbered (c .before .before)) (c .before .if1 .taken) (c .refused .ensures)
+
+-- The call is not refused.
+ok : (c : tie.Else1) → Ok (c .before)
+ok c =
+    let r = c .before in
+    taken (own r) (l r .larger .result) (length (s r .args .a .now)) (length (s r .args .out .now)) _ (sym (number r) ∙ c .if1 .left)
 
 conform-one-requires : tie.Need-conform-one-requires
 conform-one-requires c κs =
     let r = c .before .before in
-    let a = s r .args in
-    let n = l r .larger .result in
-    let t : Taken (a .self .dims) n (length (a .a .now)) (length (a .out .now)) (2 ^ n) =
-    taken (a .self .dims) n (length (a .a .now)) (length (a .out .now)) _ (sym (number r) ∙ c .before .if2 .left) in
-    (few (p r), omega (arith, t .result, l r .larger .ensures), t .result, t .counted, t .roomy)
+    let t = ok (c .before) in
+    (few (p r), omega (arith, t .result, l r .larger .ensures, grown r (t .small)), t .result, t .counted, t .roomy)
 
 conformed-requires : tie.Need-conformed-requires
 conformed-requires c κs = search needs
@@ -88,34 +92,33 @@ done-requires c κs = search needs
 same-length : tie.Need-same-length
 same-length c = search needs
 
-returns-3 : tie.Need-returns-3
+returns-2 : tie.Need-returns-2
 unfolding conformTo
-returns-3 c =
+returns-2 c =
     let i = c .before .before .before .before .before .before in
     let r = i .before in
     let a = s r .args in
     let e = p r .promotion .ensures in
-    gives-done _ _ _ _ _ _ (numbered r) (i .if2 .left)
+    let n = same r (ok i .small) in
+    gives-done _ _ _ _ _ _ (numbered r) (i .if1 .left)
     (c .done .ensures
-    ∙ ap (λ x. record { number = 0; shape = x }) (c .before .conformed .ensures ∙ ap₂ (λ u n. conformedShape u (a .self) n) e (same r)))
+    ∙ ap (λ x. record { number = 0; shape = x }) (c .before .conformed .ensures ∙ ap₂ (λ u n. conformedShape u (a .self) n) e n))
     (c .before .before .before .before .conform-one .ensures
-    ∙ ap₂ (λ u n. laid (conformed u (a .self .dims) n (a .a .now)) (a .out .now)) e (same r))
+    ∙ ap₂ (λ u n. laid (conformed u (a .self .dims) n (a .a .now)) (a .out .now)) e n)
 
 pub conform-to-spec : {M : Type 1} → statement M
 conform-to-spec =
     tie.close
     (tie.spec
-    refused-requires
-    returns
     promotion-requires
-    add-larger
+    promoted-dims-requires
     larger-requires
     blade-count-requires
     refusal-of-requires
-    refused-requires-2
-    returns-2
+    refused-requires
+    returns
     conform-one-requires
     conformed-requires
     done-requires
     same-length
-    returns-3)
+    returns-2)
