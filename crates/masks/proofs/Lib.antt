@@ -5,6 +5,7 @@ pub mod ChangeLaws
 pub mod Computed
 pub mod FlavorLaws
 pub mod ListLaws
+pub mod Lowest
 pub mod OrderLaws
 pub mod PassLaws
 pub mod Precedes
