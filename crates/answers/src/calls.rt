@@ -170,6 +170,15 @@ fn metric(ins: &[u64; 16], outs: &mut [u64; 16]) -> usize {
     1
 }
 
+fn null_flavor(outs: &mut [u64; 16]) -> usize {
+    let w = words_of(masks::flavor::null_flavor());
+    outs[0] = w.kind;
+    outs[1] = w.p;
+    outs[2] = w.n;
+    outs[3] = w.z;
+    4
+}
+
 // The bytes of a text stand one to a word.
 fn try_from_str(ins: &[u64; 16], given: usize, outs: &mut [u64; 16]) -> usize {
     let mut t = [0u8; 16];
@@ -375,6 +384,7 @@ pub fn make(
         6 => write_to(ins, out, outs),
         14..=19 => make_built(op, ins, a, b, out, outs),
         7..=13 | 20..=25 => make_shaped(op, ins, a, b, out, right, outs),
+        26 => null_flavor(outs),
         _ => 0,
     }
 }

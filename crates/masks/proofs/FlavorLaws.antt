@@ -3,10 +3,9 @@ use mathlib.Core.Path.{_≡_, refl}
 use Prim.Native.Nat.{ℕ, _<_}
 use lib.IntN.{pos}
 use borrow.Author.Tests.{lt-ltb}
-use Rattle.masks.specs.declared.flavor.Flavor.the-variants.{Cl}
 use Rattle.masks.specs.declared.flavor.Metric.{Metric}
 use Rattle.masks.specs.declared.flavor.Metric.the-variants.{Minus, Zero, Plus}
-use Rattle.masks.specs.Flavors.{metricValue, metricOf}
+use Rattle.masks.specs.Flavors.{metricValue, metricOf, nullFlavor}
 
 -- a metric is known by its number
 pub metric-one : {r s : Metric} → metricValue r ≡ metricValue s → r ≡ s
@@ -22,6 +21,6 @@ metric-one {r = Plus} {s = Zero} e = cc
 metric-one {r = Plus} {s = Plus} e = refl
 
 -- under NULL each basis vector that a value can have squares to 0
-pub null-metric : (i : ℕ) → i < 255 → metricOf (Cl 0 0 255) i ≡ pos 0
+pub null-metric : (i : ℕ) → i < 255 → metricOf nullFlavor i ≡ pos 0
 unfolding metricOf
 null-metric i h = rw (lt-ltb i 255 h)

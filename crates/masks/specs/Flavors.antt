@@ -20,6 +20,10 @@ metricValue Minus = negsuc 0
 metricValue Zero = pos 0
 metricValue Plus = pos 1
 
+-- Under `Flavor::NULL` no basis vector that a value has squares to anything but 0.
+abbrev pub nullFlavor : Flavor
+nullFlavor = Cl 0 0 255
+
 -- Projective adds a dimension to those that are stated.
 unfoldable pub addedDims : Flavor → ℕ
 addedDims Vanilla = 0

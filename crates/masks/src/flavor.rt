@@ -1,6 +1,6 @@
 // Flavors and their metric.
 ghost use mathlib.Core.Path.{_≡_};
-ghost use Rattle.masks.specs.Flavors.{metricOf, metricValue, addedDims};
+ghost use Rattle.masks.specs.Flavors.{metricOf, metricValue, nullFlavor, addedDims};
 
 pub enum Flavor {
     Vanilla,
@@ -34,6 +34,13 @@ fn metric_projective(index: u8) -> Metric
         return Metric::Zero;
     }
     Metric::Plus
+}
+
+// `Flavor::NULL`, with a contract that callers can cite: a constant has none.
+pub fn null_flavor() -> Flavor
+    ensures { λ r. ⌜ r ≡ nullFlavor ⌝ }
+{
+    Flavor::NULL
 }
 
 impl Flavor {

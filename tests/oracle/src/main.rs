@@ -42,6 +42,7 @@ fn main() -> io::Result<()> {
         // The stored list: some of each call, of few dimensions; and the same with every hundredth answer wrong.
         Some("stored" | "wrong") => {
             let mut r = numbers::Rng(1);
+            each(line::Call { op: masks::NULL_FLAVOR, ..line::Call::default() });
             for op in masks::ALL {
                 for i in 0..120 {
                     each(lists::random(&mut r, op, if i < 4 { 9 } else { 4 }));

@@ -31,7 +31,9 @@ pub const UNPACK_OWN_EVEN: u64 = 23;
 pub const UNPACK_OWN_ODD: u64 = 24;
 pub const UNPACK_VECTOR: u64 = 25;
 
-/// Every call, in the order of its numbers.
+pub const NULL_FLAVOR: u64 = 26;
+
+/// Every call that takes something, in the order of its numbers.
 pub const ALL: std::ops::RangeInclusive<u64> = GRADE_SIZE..=UNPACK_VECTOR;
 
 /// A refusal's number.
@@ -250,6 +252,7 @@ fn done(c: &Call) -> Given<Answer> {
         UNPACK_OWN_EVEN => unpacked(c, None, Some(SubSide::Left), half(w[0])),
         UNPACK_OWN_ODD => unpacked(c, None, Some(SubSide::Right), half(w[0])),
         UNPACK_VECTOR => unpacked(c, None, None, w[0] as usize),
+        NULL_FLAVOR => Ok(Answer { words: flavor_words(Flavor::NULL).to_vec(), ..Answer::default() }),
         _ => unreachable!("no call has this number"),
     }
 }
