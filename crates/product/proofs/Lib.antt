@@ -1,0 +1,21 @@
+-- The laws that the proofs of `product`, and of the crates above it, cite.
+pub mod MetricSigns
+pub mod Partners
+pub mod ZeroLaws
+pub mod PairsTotal
+pub mod GatherLaws
+pub mod MultipliedLaws
+pub mod AccuracyLaws
+pub mod GroupingLaws
+pub mod AlgebraLaws
+pub mod CountingLaws
+pub mod ExactLaws
+pub mod ReversedLaws
+pub mod ScaleLaws
+pub mod AccuracyExamples
+pub mod PlacesLaws
+pub mod SumsLaws
+pub mod Table
+pub mod RefusalLaws
+pub mod ByOnesLaws
+pub mod PowerLaws

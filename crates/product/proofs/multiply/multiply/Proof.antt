@@ -1,0 +1,67 @@
+-- `product::multiply::multiply` meets its contract: values that agree are multiplied as they stand. Assumes nothing.
+use mathlib.Core.Path.{_≡_, refl, sym, ap, _∙_}
+use mathlib.Core.Bool.{true}
+use lib.Dec.{eqb}
+use lib.ListN.{length}
+use native.Mathlib.Omega.{arith}
+use borrow.Author.Needs.{needs}
+use borrow.Author.Tests.{not-false}
+use Rattle.masks.specs.Outcome.{refusal}
+use Rattle.product.specs.Products.{sharesFlavor}
+use Rattle.product.proofs.MultipliedLaws.{testsOf, Agreeing, agreeing, fits-agreeing, gives-agreeing-refused, gives-agreeing}
+use Rattle.product.proofs.multiply.multiply.Statement.{statement}
+use Rattle.product.proofs.multiply.multiply.Tie as tie
+
+agree-requires : tie.Need-agree-requires
+agree-requires c κs = search needs
+
+multiply-conformed-requires : tie.Need-multiply-conformed-requires
+multiply-conformed-requires c κs = search needs
+
+same-length : tie.Need-same-length
+same-length c = search needs
+
+returns : tie.Need-returns
+returns c = search needs
+
+product-refusal-requires : tie.Need-product-refusal-requires
+product-refusal-requires c κs = search needs
+
+refused-requires : tie.Need-refused-requires
+refused-requires c κs = search needs
+
+returns-2 : tie.Need-returns-2
+returns-2 c =
+    let s = c .before .before .before .before .before .before .before .before in
+    let a = s .args in
+    gives-agreeing-refused (a .mode) (a .left) (a .right) (a .a .now) (a .b .now) (length (a .out .now)) (agreeing (a .left) (a .right) (sym (c .before .before .before .before .agree .ensures) ∙ not-false _ (c .before .before .before .if1 .left)))
+    (c .before .before .product-refusal .result) (c .refused .result) (a .out .now) (c .before .before .product-refusal .ensures) (c .before .if2 .taken) (c .refused .ensures)
+
+multiply-same-requires : tie.Need-multiply-same-requires
+multiply-same-requires c κs =
+    let a = c .before .before .before .before .before .before .before .before .args in
+    let p = fits-agreeing (a .left .dims) (length (a .a .now)) (length (a .b .now)) (length (a .out .now)) (sym (c .before .before .product-refusal .ensures) ∙ c .before .if2 .left) in
+    (p .small, p .counted, p .countedRight, p .roomy)
+
+same-length-2 : tie.Need-same-length-2
+same-length-2 c = search needs
+
+returns-3 : tie.Need-returns-3
+returns-3 c =
+    let a = c .before .before .before .before .before .before .before .before .before .before .before .args in
+    gives-agreeing (a .mode) (a .left) (a .right) (a .a .now) (a .b .now) (length (a .out .now)) (agreeing (a .left) (a .right) (sym (c .before .before .before .before .before .before .before .agree .ensures) ∙ not-false _ (c .before .before .before .before .before .before .if1 .left))) (c .before .before .multiply-same .result) (a .out .now) _ (sym (c .before .before .before .before .before .product-refusal .ensures) ∙ c .before .before .before .before .if2 .left) (c .before .before .multiply-same .ensures)
+
+pub multiply-spec : {M : Type 1} → statement M
+multiply-spec =
+    tie.close
+    (tie.spec
+    agree-requires
+    multiply-conformed-requires
+    same-length
+    returns
+    product-refusal-requires
+    refused-requires
+    returns-2
+    multiply-same-requires
+    same-length-2
+    returns-3)
