@@ -1,11 +1,11 @@
 -- Document 01's order of the pairs gives each place the sum of its own pairs: for each place of b, the one place of a whose mask differs from b's by k's. Assumes nothing.
-use mathlib.Core.Path.{_≡_, refl, sym, ap, ap₂, _∙_}
+use mathlib.Core.Path.{_≡_, refl, sym, ap, _∙_}
 use mathlib.Core.Bool.{Bool, true, false, cond}
-use mathlib.Core.List.{List, [], _∷_, map}
+use mathlib.Core.List.{List, map}
 use mathlib.Core.Logic.{_≢_}
-use Prim.Native.Nat.{ℕ, zero, suc, _+_, _^_, _<_, _≤_, suc-le-suc}
+use Prim.Native.Nat.{ℕ, zero, suc, _^_, _<_, _≤_}
 use native.Mathlib.Decide.{decLt}
-use native.Mathlib.Nat.{le-refl, le-of-lt, zero-add, add-zero, add-suc, suc-add, suc-inj, suc-ne-zero, zero-lt-suc}
+use native.Mathlib.Nat.{le-refl, le-of-lt, zero-add}
 use native.Mathlib.Omega.{arith}
 use lib.Arith.{lt-of-le-ne}
 use lib.Dec.{eqb, ltb}
@@ -32,6 +32,7 @@ use Rattle.product.specs.Accuracy.{contributing}
 use Rattle.product.proofs.MetricSigns.{metric-sign}
 use Rattle.product.proofs.PairsTotal.{contributing-pairs}
 use Rattle.product.proofs.Partners.{partner-place, place-at-lt, partner-there, partner-goes}
+use Rattle.product.proofs.PlacesLaws.{by-places}
 use Rattle.product.proofs.ZeroLaws.{run-never-minus-zero}
 
 -- A test of h against one number more tells the same, unless h is that number.
@@ -40,16 +41,6 @@ ltb-other h n e = elim (decLt h n) [
   | yes l ↦ lt-ltb h n l ∙ sym (lt-ltb h (suc n) (omega arith))
   | no l ↦ le-ltb h n (omega arith) ∙ sym (le-ltb h (suc n) (lt-of-le-ne (omega arith) (λ q. e (sym q))))
 ]
-
--- A list goes by its places.
-by-places : (g : ℕ → Float) (i n : ℕ) (l : List Float) → length l ≡ n → ((k : ℕ) → k < n → getD l k nan ≡ g (i + k)) → l ≡ map g (upFrom i n)
-unfolding upFrom
-by-places g i zero [] e h = refl
-by-places g i zero (x ∷ l) e h = absurd (suc-ne-zero (length l) e)
-by-places g i (suc n) [] e h = absurd (suc-ne-zero n (sym e))
-by-places g i (suc n) (x ∷ l) e h =
-    ap₂ (λ (y : Float) (m : List Float). y ∷ m) (h 0 (zero-lt-suc n) ∙ ap g (add-zero i))
-    (by-places g (suc i) n l (suc-inj e) (λ k p. h (suc k) (suc-le-suc p) ∙ ap g (add-suc i k ∙ sym (suc-add i k))))
 
 -- ---- a store that is made where t says so
 
@@ -169,6 +160,11 @@ module _ (mode : Mode) (flavor : Flavor) (d : ℕ) where
         (λ k h. rw (zero-add k) (product-at k h))
 
     -- A product's sum before the snap is never -0.
-    pub never-minus-zero : (k : ℕ) → k < 2 ^ d → (e : ℤ) → getD (sums mode flavor d f a b (2 ^ d)) k nan ≡ fin mathlib.Core.Bool.true 0 e → ⊥
+    pub never-minus-zero : (k : ℕ) → k < 2 ^ d → (e : ℤ) → getD (sums mode flavor d f a b (2 ^ d)) k nan ≡ fin true 0 e → ⊥
     unfolding sumAt
     never-minus-zero k h e z = run-never-minus-zero f (gathered mode flavor d a b k) (2 ^ d) e (sym (sums-at k h) ∙ z)
+
+    -- So the only -0 in a product comes from the snap.
+    pub minus-zero-snapped : (k : ℕ) → k < 2 ^ d → (e : ℤ) → getD (product mode flavor d f a b) k nan ≡ fin true 0 e
+        → getD (product mode flavor d f a b) k nan ≢ getD (sums mode flavor d f a b (2 ^ d)) k nan
+    minus-zero-snapped k h e z q = never-minus-zero k h e (sym q ∙ z)

@@ -1,149 +1,47 @@
--- What `multiplied` gives: the tests that refuse it, and the product of the conformed values; where nothing has to be conformed, that of the values as they stand. Assumes nothing.
+-- What `multiplied` gives where it is not refused: the product of the conformed values; where nothing has to be conformed, that of the values as they stand. Assumes nothing.
 use mathlib.Core.Path.{_≡_, refl, sym, ap, ap₂, _∙_, subst}
-use mathlib.Core.Bool.{Bool, true, false, cond, _&&_}
-use mathlib.Core.List.{List, [], _∷_}
-use Prim.Native.Nat.{ℕ, zero, suc, _+_, _^_, _≤_, _<_, max}
+use mathlib.Core.Bool.{true, _&&_}
+use mathlib.Core.List.{List}
+use Prim.Native.Nat.{ℕ, _+_, _^_, _≤_, _<_}
 use native.Mathlib.Nat.{add-zero, le-refl, max-eq-left}
 use native.Mathlib.Omega.{arith}
 use lib.Dec.{T, eqb, eqb→eq}
 use lib.Ieee.Bits.{is-true}
-use lib.Ieee.{Float, binary64}
+use lib.Ieee.{Float}
 use lib.ListN.{length, take}
-use borrow.Author.Tests.{eqb-true, eq-eqb, le-ltb, lt-ltb, ltb-false}
+use borrow.Author.Tests.{eqb-true, eq-eqb, le-ltb}
 use Rattle.masks.specs.declared.flavor.Flavor.{Flavor}
 use Rattle.masks.specs.declared.flavor.Flavor.the-variants.{Vanilla, Projective, Cl}
 use Rattle.masks.specs.declared.shape.Shape.{Shape}
 use Rattle.masks.specs.declared.outcome.Answers.{Answers}
-use Rattle.masks.specs.Outcome.{Test, Pair, GivesBoth, laid, refusal, tooMany, wrongCount, noRoom, unless, value, refusedPair}
+use Rattle.masks.specs.Outcome.{Pair, GivesBoth, laid, refusal, refusedPair}
 use Rattle.masks.specs.Shapes.{promotes, resized, conformed, conformedShape, conform}
 use Rattle.masks.proofs.ListLaws.{take-laid}
-use Rattle.masks.proofs.RefusalLaws.{unless-refused, unless-done, later-same, refused-first, refused-later}
-use Rattle.masks.proofs.ChangeLaws.{pairChecks, Paired, paired, conformed-none}
-use Rattle.masks.proofs.OrderLaws.{blades-le}
+use Rattle.masks.proofs.RefusalLaws.{unless-done}
+use Rattle.masks.proofs.ChangeLaws.{Paired, paired, conformed-none}
 use Rattle.masks.proofs.ShapeLaws.{resized-same, resized-length}
 use Rattle.masks.proofs.Computed.{both}
+use Rattle.product.proofs.RefusalLaws.{gives-refusal, up, upRight, meeting, tests, pair, conform-number, multiplied-refused, refused-anyway, refused-for-room, roomy-enough, testsOf, tests-alike}
 use Rattle.product.specs.declared.outcome.Product.{Product}
 use Rattle.product.specs.declared.mode.Mode.{Mode}
-use Rattle.product.specs.Pairwise.{pairsOf, product}
 use Rattle.product.specs.Products.{Counted, GivesProduct, productOf, refusedProduct, multipliedOf, multiplied, sharesFlavor}
 use Rattle.product.specs.Accuracy.{Fitting}
 
 -- ---- conforming first
 
 module _ (s t : Shape) (a b : List Float) where
-  abbrev up : ℕ
-  up = promotes (s .flavor) (t .flavor)
-
-  abbrev upRight : ℕ
-  upRight = promotes (t .flavor) (s .flavor)
-
-  -- The dimensions that the two values meet in.
-  abbrev pub meeting : ℕ
-  meeting = max (s .dims + up) (t .dims + upRight)
-
-  -- The tests that conforming makes, for outputs of `room` numbers.
-  abbrev pub tests : ℕ → List Test
-  tests room = pairChecks (s .dims) (t .dims) meeting (length a) (length b) room room
-
-  -- Both values, conformed.
-  abbrev pub pair : Pair
-  pair =
-      record {
-        number = 0;
-        leftShape = conformedShape up s meeting;
-        rightShape = conformedShape upRight t meeting;
-        leftCoefs = conformed up (s .dims) meeting a;
-        rightCoefs = conformed upRight (t .dims) meeting b;
-      }
-
-  number-of : (k : ℕ) → unless refusedPair k pair .number ≡ k
-  unfolding unless
-  number-of zero = refl
-  number-of (suc k) = refl
-
-  pub conform-number : (room : ℕ) → conform s t a b room room .number ≡ refusal (tests room)
+  pub conform-done : (room : ℕ) → refusal (tests s t a b room) ≡ 0 → conform s t a b room room ≡ pair s t a b
   unfolding conform
-  conform-number room = number-of (refusal (tests room))
+  conform-done room z = unless-done refusedPair (refusal (tests s t a b room)) 0 (pair s t a b) (sym z) refl
 
-  pub conform-done : (room : ℕ) → refusal (tests room) ≡ 0 → conform s t a b room room ≡ pair
-  unfolding conform
-  conform-done room z = unless-done refusedPair (refusal (tests room)) 0 pair (sym z) refl
-
-  pub multiplied-refused : (mode : Mode) (room n : ℕ) → n ≡ refusal (tests room) → (n ≡ 0 → ⊥) → multiplied mode s t a b room ≡ refusedProduct n
-  unfolding multiplied
-  multiplied-refused mode room n e h = unless-refused refusedProduct (conform s t a b room room .number) n _ (e ∙ sym (conform-number room)) h
-
-  pub multiplied-done : (mode : Mode) (room : ℕ) → refusal (tests room) ≡ 0 → multiplied mode s t a b room ≡ multipliedOf mode (pair .leftShape) (pair .leftCoefs) (pair .rightCoefs)
+  pub multiplied-done : (mode : Mode) (room : ℕ) → refusal (tests s t a b room) ≡ 0 → multiplied mode s t a b room ≡ multipliedOf mode (pair s t a b .leftShape) (pair s t a b .leftCoefs) (pair s t a b .rightCoefs)
   unfolding multiplied
   multiplied-done mode room z =
       let c = conform-done room z in
       unless-done refusedProduct (conform s t a b room room .number) 0 _ (ap (λ (p : Pair). p .number) (sym c)) refl
       ∙ ap (λ (p : Pair). multipliedOf mode (p .leftShape) (p .leftCoefs) (p .rightCoefs)) c
 
--- ---- room for any value, and less
-
-room-for-any : (n : ℕ) → n ≤ 9 → refusal (noRoom 512 (2 ^ n) ∷ noRoom 512 (2 ^ n) ∷ []) ≡ 0
-unfolding refusal
-room-for-any n h = rw (le-ltb 512 (2 ^ n) (blades-le n h))
-
--- Two lists of tests that begin alike give one number, if they do after a first test that does not fail.
-begin-alike : (k : ℕ) (t : Test) (ts us : List Test) → (t .fails ≡ false → refusal ts ≡ k → refusal us ≡ k) → refusal (t ∷ ts) ≡ k → refusal (t ∷ us) ≡ k
-begin-alike k t ts us h e = go (t .fails) refl
-  where
-    go : (x : Bool) → t .fails ≡ x → refusal (t ∷ us) ≡ k
-    go true p = refused-first t us p ∙ sym (refused-first t ts p) ∙ e
-    go false p = refused-later t us p ∙ h p (sym (refused-later t ts p) ∙ e)
-
-module _ (s t : Shape) (a b : List Float) where
-  abbrev n : ℕ
-  n = meeting s t a b
-
-  -- A refusal for want of anything but room is the same whatever the room.
-  pub refused-anyway : (room k : ℕ) → (k ≡ 0 → ⊥) → refusal (tests s t a b 512) ≡ k → refusal (tests s t a b room) ≡ k
-  refused-anyway room k h =
-      begin-alike k (tooMany (s .dims)) _ _
-      (λ _. begin-alike k (tooMany (t .dims)) _ _
-      (λ _. begin-alike k (tooMany n) _ _
-      (λ small. begin-alike k (wrongCount (length a) (s .dims)) _ _
-      (λ _. begin-alike k (wrongCount (length b) (t .dims)) _ _
-      (λ _ z. absurd (h (sym z ∙ room-for-any n (ltb-false 9 n small))))))))
-
-  -- What is not refused where there is room for any value is refused 3 just where there is too little.
-  pub refused-for-room : (room : ℕ) → refusal (tests s t a b 512) ≡ 0 → room < 2 ^ n → refusal (tests s t a b room) ≡ 3
-  unfolding refusal
-  refused-for-room room z h =
-      let p = paired (s .dims) (t .dims) n (length a) (length b) 512 512 z in
-      rw (le-ltb 9 (s .dims) (p .small), le-ltb 9 (t .dims) (p .smallRight), le-ltb 9 n (p .result), eq-eqb (length a) (2 ^ s .dims) (p .counted), eq-eqb (length b) (2 ^ t .dims) (p .countedRight), lt-ltb room (2 ^ n) h)
-
-  pub roomy-enough : (room : ℕ) → refusal (tests s t a b 512) ≡ 0 → 2 ^ n ≤ room → refusal (tests s t a b room) ≡ 0
-  unfolding refusal
-  roomy-enough room z h =
-      let p = paired (s .dims) (t .dims) n (length a) (length b) 512 512 z in
-      rw (le-ltb 9 (s .dims) (p .small), le-ltb 9 (t .dims) (p .smallRight), le-ltb 9 n (p .result), eq-eqb (length a) (2 ^ s .dims) (p .counted), eq-eqb (length b) (2 ^ t .dims) (p .countedRight), le-ltb room (2 ^ n) h)
-
 -- ---- values that agree
-
--- A test that is made twice is made once.
-twice : (t : Test) (ts : List Test) → refusal (t ∷ t ∷ ts) ≡ refusal (t ∷ ts)
-unfolding refusal
-twice t ts = go (t .fails)
-  where
-    go : (x : Bool) → cond x (t .number) (cond x (t .number) (refusal ts)) ≡ cond x (t .number) (refusal ts)
-    go true = refl
-    go false = refl
-
--- The tests of two values of d dimensions.
-abbrev pub testsOf : ℕ → ℕ → ℕ → ℕ → List Test
-testsOf d count countRight room = tooMany d ∷ wrongCount count d ∷ wrongCount countRight d ∷ noRoom room (2 ^ d) ∷ []
-
-same-later : (t : Test) (ts us : List Test) → refusal ts ≡ refusal us → refusal (t ∷ ts) ≡ refusal (t ∷ us)
-unfolding refusal
-same-later t ts us e = rw e
-
-tests-alike : (d count countRight room : ℕ) → refusal (pairChecks d d d count countRight room room) ≡ refusal (testsOf d count countRight room)
-tests-alike d count countRight room =
-    twice (tooMany d) _ ∙ twice (tooMany d) _
-    ∙ same-later (tooMany d) _ _ (same-later (wrongCount count d) _ _ (same-later (wrongCount countRight d) _ _ (twice (noRoom room (2 ^ d)) [])))
 
 shape-kept : (s : Shape) → conformedShape 0 s (s .dims) ≡ s
 unfolding conformedShape
@@ -187,12 +85,6 @@ all-pass d count countRight room h r e g = rw (le-ltb 9 d h, eq-eqb count (2 ^ d
 pub multiplied-same : (mode : Mode) (s : Shape) (a b : List Float) (room : ℕ) → Fitting s room → length a ≡ 2 ^ s .dims → length b ≡ 2 ^ s .dims → multiplied mode s s a b room ≡ multipliedOf mode s a b
 multiplied-same mode s a b room t la lb =
     multiplied-agreeing s s a b refl (rw (promotes-same (s .flavor))) mode room (all-pass (s .dims) (length a) (length b) room (t .small) (t .roomy) la lb)
-
--- ---- what the code gives
-
--- A refusal gives its number and leaves the output.
-pub gives-refusal : (o : Counted) (n : ℕ) (r : Product) (out : List Float) → o ≡ refusedProduct n → r ≡ productOf (refusedProduct n) → GivesProduct o r out out
-gives-refusal o n r out e q = rw e (record { answered = q; left = refl })
 
 -- Two values agree: they have one number of dimensions, and no flavor is promoted.
 pub record Agreeing (s t : Shape) : Type 0 where

@@ -6,7 +6,7 @@ use native.Mathlib.Nat.{zero-add, add-zero, add-suc, suc-add, suc-inj, suc-ne-ze
 use native.Mathlib.Omega.{arith}
 use lib.Ieee.{Float, nan}
 use lib.ListN.{length, getD, take, drop, length-map, length-take, List·getD-append}
-use lib.Seq.{drop-append-seam, getD-append-add, getD-drop}
+use lib.Seq.{drop-append-seam, getD-drop}
 use Rattle.masks.specs.Order.{upFrom}
 use Rattle.masks.specs.Outcome.{laid}
 use Rattle.masks.proofs.ListLaws.{front, getD-map, getD-past}

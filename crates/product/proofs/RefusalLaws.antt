@@ -1,95 +1,163 @@
--- What a product gives where it is refused and where it is not; and that its contract leaves nothing open. Assumes nothing.
+-- Which number a product is refused with, and that its contract leaves nothing open. Assumes nothing.
 use mathlib.Core.Path.{_≡_, refl, sym, ap, _∙_}
 use mathlib.Core.Bool.{Bool, true, false, cond}
-use mathlib.Core.List.{List, [], _∷_, _++_}
-use Prim.Native.Nat.{ℕ, zero, suc, _+_, _^_, max}
+use mathlib.Core.List.{List, [], _∷_}
+use Prim.Native.Nat.{ℕ, zero, suc, _+_, _^_, _≤_, _<_, max}
 use lib.Ieee.{Float}
 use lib.ListN.{length}
+use borrow.Author.Tests.{eq-eqb, le-ltb, lt-ltb, ltb-false}
 use Rattle.masks.specs.declared.flavor.Flavor.the-variants.{Vanilla}
 use Rattle.masks.specs.declared.shape.Shape.{Shape}
-use Rattle.masks.specs.Outcome.{Test, refusal, tooMany, wrongCount, noRoom, unless, laid, shapeOf, Pair, refusedPair}
-use Rattle.masks.specs.Shapes.{promotes, conform}
-use Rattle.masks.proofs.RefusalLaws.{unless-refused, unless-done}
-use Rattle.masks.proofs.ChangeLaws.{pairChecks}
-use Rattle.product.specs.declared.mode.Mode.{Mode}
+use Rattle.masks.specs.Outcome.{Test, Pair, refusal, tooMany, wrongCount, noRoom, unless, shapeOf, refusedPair}
+use Rattle.masks.specs.Shapes.{promotes, conformed, conformedShape, conform}
+use Rattle.masks.proofs.RefusalLaws.{unless-refused, refused-first, refused-later}
+use Rattle.masks.proofs.ChangeLaws.{pairChecks, paired}
+use Rattle.masks.proofs.OrderLaws.{blades-le}
 use Rattle.product.specs.declared.outcome.Product.{Product}
-use Rattle.product.specs.Products.{Counted, refusedProduct, multiplied, productOf, GivesProduct}
+use Rattle.product.specs.declared.mode.Mode.{Mode}
+use Rattle.product.specs.Products.{Counted, GivesProduct, productOf, refusedProduct, multiplied}
 
 -- ---- the contract
 
 -- A refusal gives its number and leaves the output.
-pub gives-product-refused : (k n : ℕ) (o : Counted) (r : Product) (out : List Float) → n ≡ k → (n ≡ 0 → ⊥) → r ≡ productOf (refusedProduct n) → GivesProduct (unless refusedProduct k o) r out out
-gives-product-refused k n o r out e h a = rw (unless-refused refusedProduct k n o e h) (record { answered = a; left = refl })
-
-pub gives-product-done : (k n : ℕ) (o : Counted) (r : Product) (before after : List Float) → n ≡ k → n ≡ 0 → r ≡ productOf o → after ≡ laid (o .outcome .coefs) before → GivesProduct (unless refusedProduct k o) r before after
-gives-product-done k n o r before after e h a l = rw (unless-done refusedProduct k n o e h) (record { answered = a; left = l })
+pub gives-refusal : (o : Counted) (n : ℕ) (r : Product) (out : List Float) → o ≡ refusedProduct n → r ≡ productOf (refusedProduct n) → GivesProduct o r out out
+gives-refusal o n r out e q = rw e (record { answered = q; left = refl })
 
 -- Nothing is left open: a product and what the output held determine the answer and what it holds after.
 pub gives-product-one : {o : Counted} {r r′ : Product} {before after after′ : List Float} → GivesProduct o r before after → GivesProduct o r′ before after′ → (r ≡ r′) × (after ≡ after′)
 gives-product-one g h = (g .answered ∙ sym (h .answered), g .left ∙ sym (h .left))
 
--- ---- the number of a product
+-- ---- the tests
 
-pair-number : (k : ℕ) (o : Pair) → o .number ≡ 0 → unless refusedPair k o .number ≡ k
-unfolding unless
-pair-number zero o e = e
-pair-number (suc k) o e = refl
+module _ (s t : Shape) (a b : List Float) where
+  -- The dimensions that each value is promoted by.
+  abbrev pub up : ℕ
+  up = promotes (s .flavor) (t .flavor)
 
-product-number : (k : ℕ) (o : Counted) → o .outcome .number ≡ 0 → unless refusedProduct k o .outcome .number ≡ k
-unfolding unless
-product-number zero o e = e
-product-number (suc k) o e = refl
+  abbrev pub upRight : ℕ
+  upRight = promotes (t .flavor) (s .flavor)
 
--- A test that stands twice counts once.
-twice : (t : Test) → refusal (t ∷ t ∷ []) ≡ refusal (t ∷ [])
+  -- The dimensions that the two values meet in.
+  abbrev pub meeting : ℕ
+  meeting = max (s .dims + up) (t .dims + upRight)
+
+  -- The tests that conforming makes, for outputs of `room` numbers.
+  abbrev pub tests : ℕ → List Test
+  tests room = pairChecks (s .dims) (t .dims) meeting (length a) (length b) room room
+
+  -- Both values, conformed.
+  abbrev pub pair : Pair
+  pair =
+      record {
+        number = 0;
+        leftShape = conformedShape up s meeting;
+        rightShape = conformedShape upRight t meeting;
+        leftCoefs = conformed up (s .dims) meeting a;
+        rightCoefs = conformed upRight (t .dims) meeting b;
+      }
+
+  number-of : (k : ℕ) → unless refusedPair k pair .number ≡ k
+  unfolding unless
+  number-of zero = refl
+  number-of (suc k) = refl
+
+  pub conform-number : (room : ℕ) → conform s t a b room room .number ≡ refusal (tests room)
+  unfolding conform
+  conform-number room = number-of (refusal (tests room))
+
+  pub multiplied-refused : (mode : Mode) (room n : ℕ) → n ≡ refusal (tests room) → (n ≡ 0 → ⊥) → multiplied mode s t a b room ≡ refusedProduct n
+  unfolding multiplied
+  multiplied-refused mode room n e h = unless-refused refusedProduct (conform s t a b room room .number) n _ (e ∙ sym (conform-number room)) h
+
+-- ---- room for any value, and less
+
+room-for-any : (n : ℕ) → n ≤ 9 → refusal (noRoom 512 (2 ^ n) ∷ noRoom 512 (2 ^ n) ∷ []) ≡ 0
 unfolding refusal
-twice t = go (t .fails)
+room-for-any n h = rw (le-ltb 512 (2 ^ n) (blades-le n h))
+
+-- Two lists of tests that begin alike give one number, if they do after a first test that does not fail.
+begin-alike : (k : ℕ) (t : Test) (ts us : List Test) → (t .fails ≡ false → refusal ts ≡ k → refusal us ≡ k) → refusal (t ∷ ts) ≡ k → refusal (t ∷ us) ≡ k
+begin-alike k t ts us h e = go (t .fails) refl
   where
-    go : (b : Bool) → cond b (t .number) (cond b (t .number) 0) ≡ cond b (t .number) 0
+    go : (x : Bool) → t .fails ≡ x → refusal (t ∷ us) ≡ k
+    go true p = refused-first t us p ∙ sym (refused-first t ts p) ∙ e
+    go false p = refused-later t us p ∙ h p (sym (refused-later t ts p) ∙ e)
+
+module _ (s t : Shape) (a b : List Float) where
+  abbrev n : ℕ
+  n = meeting s t a b
+
+  -- A refusal for want of anything but room is the same whatever the room.
+  pub refused-anyway : (room k : ℕ) → (k ≡ 0 → ⊥) → refusal (tests s t a b 512) ≡ k → refusal (tests s t a b room) ≡ k
+  refused-anyway room k h =
+      begin-alike k (tooMany (s .dims)) _ _
+      (λ _. begin-alike k (tooMany (t .dims)) _ _
+      (λ _. begin-alike k (tooMany n) _ _
+      (λ small. begin-alike k (wrongCount (length a) (s .dims)) _ _
+      (λ _. begin-alike k (wrongCount (length b) (t .dims)) _ _
+      (λ _ z. absurd (h (sym z ∙ room-for-any n (ltb-false 9 n small))))))))
+
+  -- What is not refused where there is room for any value is refused 3 just where there is too little.
+  pub refused-for-room : (room : ℕ) → refusal (tests s t a b 512) ≡ 0 → room < 2 ^ n → refusal (tests s t a b room) ≡ 3
+  unfolding refusal
+  refused-for-room room z h =
+      let p = paired (s .dims) (t .dims) n (length a) (length b) 512 512 z in
+      rw (le-ltb 9 (s .dims) (p .small), le-ltb 9 (t .dims) (p .smallRight), le-ltb 9 n (p .result), eq-eqb (length a) (2 ^ s .dims) (p .counted), eq-eqb (length b) (2 ^ t .dims) (p .countedRight), lt-ltb room (2 ^ n) h)
+
+  pub roomy-enough : (room : ℕ) → refusal (tests s t a b 512) ≡ 0 → 2 ^ n ≤ room → refusal (tests s t a b room) ≡ 0
+  unfolding refusal
+  roomy-enough room z h =
+      let p = paired (s .dims) (t .dims) n (length a) (length b) 512 512 z in
+      rw (le-ltb 9 (s .dims) (p .small), le-ltb 9 (t .dims) (p .smallRight), le-ltb 9 n (p .result), eq-eqb (length a) (2 ^ s .dims) (p .counted), eq-eqb (length b) (2 ^ t .dims) (p .countedRight), le-ltb room (2 ^ n) h)
+
+-- ---- tests that are made twice
+
+-- A test that is made twice is made once.
+twice : (t : Test) (ts : List Test) → refusal (t ∷ t ∷ ts) ≡ refusal (t ∷ ts)
+unfolding refusal
+twice t ts = go (t .fails)
+  where
+    go : (x : Bool) → cond x (t .number) (cond x (t .number) (refusal ts)) ≡ cond x (t .number) (refusal ts)
     go true = refl
     go false = refl
 
--- What refuses alike does so after the same tests.
-behind : (ts us vs : List Test) → refusal us ≡ refusal vs → refusal (ts ++ us) ≡ refusal (ts ++ vs)
+-- The tests of two values of d dimensions.
+abbrev pub testsOf : ℕ → ℕ → ℕ → ℕ → List Test
+testsOf d count countRight room = tooMany d ∷ wrongCount count d ∷ wrongCount countRight d ∷ noRoom room (2 ^ d) ∷ []
+
+same-later : (t : Test) (ts us : List Test) → refusal ts ≡ refusal us → refusal (t ∷ ts) ≡ refusal (t ∷ us)
 unfolding refusal
-behind [] us vs e = e
-behind (t ∷ ts) us vs e = ap (cond (t .fails) (t .number)) (behind ts us vs e)
+same-later t ts us e = rw e
 
--- A product asks for its room once.
-once : (d e n count countRight room : ℕ) → refusal (pairChecks d e n count countRight room room)
-    ≡ refusal (tooMany d ∷ tooMany e ∷ tooMany n ∷ wrongCount count d ∷ wrongCount countRight e ∷ noRoom room (2 ^ n) ∷ [])
-once d e n count countRight room =
-    behind (tooMany d ∷ tooMany e ∷ tooMany n ∷ wrongCount count d ∷ wrongCount countRight e ∷ []) _ _ (twice (noRoom room (2 ^ n)))
+pub tests-alike : (d count countRight room : ℕ) → refusal (pairChecks d d d count countRight room room) ≡ refusal (testsOf d count countRight room)
+tests-alike d count countRight room =
+    twice (tooMany d) _ ∙ twice (tooMany d) _
+    ∙ same-later (tooMany d) _ _ (same-later (wrongCount count d) _ _ (same-later (wrongCount countRight d) _ _ (twice (noRoom room (2 ^ d)) [])))
 
+-- A product's tests: the dimensions of both values and of the result, both counts and the room.
 module _ (mode : Mode) (s t : Shape) (a b : List Float) (room : ℕ) where
-  -- A product is refused as conforming its values is.
-  pub refused-as-conform : multiplied mode s t a b room .outcome .number ≡ conform s t a b room room .number
+  number-of-product : (k : ℕ) (o : Counted) → o .outcome .number ≡ 0 → unless refusedProduct k o .outcome .number ≡ k
+  unfolding unless
+  number-of-product zero o e = e
+  number-of-product (suc k) o e = refl
+
+  pub refused-by : multiplied mode s t a b room .outcome .number
+      ≡ refusal
+      (tooMany (s .dims) ∷ tooMany (t .dims) ∷ tooMany (meeting s t a b) ∷ wrongCount (length a) (s .dims) ∷ wrongCount (length b) (t .dims)
+      ∷ noRoom room (2 ^ meeting s t a b) ∷ [])
   unfolding multiplied
-  refused-as-conform = product-number (conform s t a b room room .number) _ refl
+  refused-by =
+      number-of-product (conform s t a b room room .number) _ refl ∙ conform-number s t a b room
+      ∙ same-later (tooMany (s .dims)) _ _
+      (same-later (tooMany (t .dims)) _ _
+      (same-later (tooMany (meeting s t a b)) _ _
+      (same-later (wrongCount (length a) (s .dims)) _ _ (same-later (wrongCount (length b) (t .dims)) _ _ (twice (noRoom room (2 ^ meeting s t a b)) [])))))
 
-  -- The dimensions that both values are conformed to.
-  abbrev result : ℕ
-  result = max (s .dims + promotes (s .flavor) (t .flavor)) (t .dims + promotes (t .flavor) (s .flavor))
-
-  conform-number : conform s t a b room room .number ≡ refusal (pairChecks (s .dims) (t .dims) result (length a) (length b) room room)
-  unfolding conform
-  conform-number = pair-number _ _ refl
-
-  -- A product's tests: the dimensions of both values and of the result, both counts and the room.
-  pub refused-by : multiplied mode s t a b room .outcome .number ≡ refusal (tooMany (s .dims) ∷ tooMany (t .dims) ∷ tooMany result ∷ wrongCount (length a) (s .dims) ∷ wrongCount (length b) (t .dims) ∷ noRoom room (2 ^ result) ∷ [])
-  refused-by = refused-as-conform ∙ conform-number ∙ once (s .dims) (t .dims) result (length a) (length b) room
-
--- ---- a refused product
-
-refused-whole : (k : ℕ) (o : Counted) → o .outcome .number ≡ 0 → (unless refusedProduct k o .outcome .number ≡ 0 → ⊥) → unless refusedProduct k o ≡ refusedProduct (unless refusedProduct k o .outcome .number)
-unfolding unless
-refused-whole zero o e h = absurd (h e)
-refused-whole (suc k) o e h = refl
-
--- A refused product has no pairs, no coefficients and the shape 0 Vanilla.
-pub refused-product : (mode : Mode) (s t : Shape) (a b : List Float) (room : ℕ) → (multiplied mode s t a b room .outcome .number ≡ 0 → ⊥)
-    → (multiplied mode s t a b room .pairs ≡ 0) × (multiplied mode s t a b room .outcome .coefs ≡ []) × (multiplied mode s t a b room .outcome .shape ≡ shapeOf 0 Vanilla)
-unfolding multiplied
-refused-product mode s t a b room h =
-    let e = refused-whole (conform s t a b room room .number) _ refl h in
-    (ap (λ (o : Counted). o .pairs) e, ap (λ (o : Counted). o .outcome .coefs) e, ap (λ (o : Counted). o .outcome .shape) e)
+  -- A refused product has no pairs, no coefficients and the shape 0 Vanilla.
+  pub refused-product : (multiplied mode s t a b room .outcome .number ≡ 0 → ⊥)
+      → (multiplied mode s t a b room .pairs ≡ 0) × (multiplied mode s t a b room .outcome .coefs ≡ []) × (multiplied mode s t a b room .outcome .shape ≡ shapeOf 0 Vanilla)
+  unfolding multiplied
+  refused-product h =
+      let k = conform s t a b room room .number in
+      let e = unless-refused refusedProduct k k _ refl (λ z. h (number-of-product k _ refl ∙ z)) in
+      (ap (λ (o : Counted). o .pairs) e, ap (λ (o : Counted). o .outcome .coefs) e, ap (λ (o : Counted). o .outcome .shape) e)

@@ -2,7 +2,7 @@
 use mathlib.Core.Path.{_≡_, refl, sym, ap, ap₂, _∙_}
 use mathlib.Core.Bool.{Bool, true, false, not, _&&_, _||_, cond, and-comm}
 use mathlib.Core.List.{List}
-use Prim.Native.Nat.{ℕ, zero, suc, _*_, _%_, _^_, _<_}
+use Prim.Native.Nat.{ℕ, _*_, _%_, _^_, _<_}
 use native.Mathlib.Nat.{mul-comm}
 use native.Mathlib.Omega.{arith}
 use lib.Bits.{xor-comm}
@@ -14,11 +14,10 @@ use lib.IntN.{ℤ, pos, negℤ, _*ℤ_, negℤ-negℤ}
 use lib.ListN.{getD}
 use Rattle.clifford.specs.Blade.{has, count}
 use Rattle.clifford.specs.Sign.{reversal}
-use Rattle.clifford.specs.Sum.{total}
 use Rattle.clifford.specs.Pairs.{nonzero}
 use Rattle.clifford.specs.Product.{reverse}
 use Rattle.clifford.proofs.Ring.{one-mul, neg-mul}
-use Rattle.clifford.proofs.SumLaws.{total-ext, total-add}
+use Rattle.clifford.proofs.SumLaws.{total-ext}
 use Rattle.clifford.proofs.CountLaws.{count-ones}
 use Rattle.clifford.proofs.Counting.{every-ext}
 use Rattle.clifford.proofs.PairsLaws.{nonzero-metric}
@@ -34,6 +33,7 @@ use Rattle.product.specs.declared.mode.Mode.the-variants.{All}
 use Rattle.product.specs.Modes.{takes, flavorFor, pairMetric}
 use Rattle.product.specs.Pairwise.{maskAt, metricAt, placeAt}
 use Rattle.product.specs.Accuracy.{valueIn, sizeAt, valueAt, contributes, exactSizes, Holds, Multiples, ExactCase, reversed}
+use Rattle.product.proofs.PairsTotal.{total-swap}
 
 -- ---- one number
 
@@ -103,16 +103,6 @@ unfolding reverse
 reverse-ext d order a b k e = ap (λ z. reversal (count d (has (order k))) *ℤ z) e
 
 -- ---- the exact sizes of a product
-
-total-zero : (n : ℕ) → total n (λ i. 0) ≡ 0
-unfolding total
-total-zero zero = refl
-total-zero (suc n) = rw (total-zero n)
-
-total-swap : (n m : ℕ) (f : ℕ → ℕ → ℕ) → total n (λ i. total m (λ j. f i j)) ≡ total m (λ j. total n (λ i. f i j))
-unfolding total
-total-swap zero m f = sym (total-zero m)
-total-swap (suc n) m f = rw (total-swap n m f) (sym (total-add m (λ j. total n (λ i. f i j)) (λ j. f n j)))
 
 module _ (flavor : Flavor) (d : ℕ) where
   -- A pair and the pair the other way round contribute to the same coefficient.

@@ -1,12 +1,11 @@
 -- Laws of the sums that the code keeps, one for each place: where they start, one row more, and the snap of all. Assumes nothing.
 use mathlib.Core.Path.{_≡_, refl, sym, ap, ap₂, _∙_}
-use mathlib.Core.Bool.{true, false}
 use mathlib.Core.List.{List, map}
 use Prim.Native.Nat.{ℕ, zero, suc, _+_, _^_, _<_}
 use native.Mathlib.Nat.{not-suc-le-zero, le-of-suc-le-suc}
 use native.Mathlib.Numerals.{add-one}
 use native.Mathlib.Omega.{arith}
-use lib.Ieee.{Float, nan, binary64, ofBits, ofFields, neg}
+use lib.Ieee.{Float, nan, binary64}
 use lib.ListN.{length, getD, take, replicate, length-map, length-replicate}
 use Rattle.rounding.specs.Terms.{Term}
 use Rattle.rounding.specs.Snap.{snap}

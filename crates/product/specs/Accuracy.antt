@@ -2,10 +2,10 @@
 use mathlib.Core.Path.{_≡_}
 use mathlib.Core.Bool.{Bool, not, _&&_, cond}
 use mathlib.Core.List.{List, map}
-use Prim.Native.Nat.{ℕ, zero, suc, _+_, _*_, _%_, _^_, _≤_, _<_}
+use Prim.Native.Nat.{ℕ, suc, _+_, _*_, _%_, _^_, _≤_, _<_}
 use lib.Count.{ones}
 use lib.Dec.{T, eqb, ltb}
-use lib.Ieee.{Float, nan, Format, binary64, prec, eq, fits}
+use lib.Ieee.{Float, nan, binary64, eq, fits}
 use lib.IntN.{ℤ, pos, negsuc, negℤ, _*ℤ_}
 use lib.ListN.{getD, length}
 use Rattle.clifford.specs.Blade.{count}
@@ -18,7 +18,6 @@ use Rattle.masks.specs.declared.shape.Shape.{Shape}
 use Rattle.masks.specs.Order.{order}
 use Rattle.masks.specs.Shapes.{coef, negatedIf}
 use Rattle.product.specs.declared.mode.Mode.{Mode}
-use Rattle.product.specs.declared.mode.Mode.the-variants.{All}
 use Rattle.product.specs.Pairwise.{metricAt, placeAt}
 use Rattle.product.specs.Products.{generalProduct}
 

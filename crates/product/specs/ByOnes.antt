@@ -1,9 +1,9 @@
 -- The metric of a pair by counts of ones, which is how the code works it out. A reader need not believe this page: `pair_metric` is held to specs/Modes. Assumes nothing.
-use mathlib.Core.Bool.{Bool, false, true, not, _||_, cond}
+use mathlib.Core.Bool.{Bool, not, cond}
 use Prim.Native.Nat.{ℕ, zero, suc, _+_, _%_, _^_}
 use lib.Bits.{bitAnd, bitXor}
 use lib.Dec.{eqb}
-use lib.IntN.{ℤ, pos, negsuc}
+use lib.IntN.{ℤ}
 use Rattle.clifford.specs.Blade.{has, count}
 use Rattle.clifford.specs.Metric.{turned}
 use Rattle.clifford.specs.Pairs.{nonzero}

@@ -25,7 +25,7 @@ ghost use lib.Ieee.{binary64};
 ghost use lib.ListN.{length};
 ghost use Rattle.masks.specs.Outcome.{laid, refusal, tooMany, wrongCount, noRoom};
 ghost use Rattle.product.specs.Pairwise.{product};
-ghost use Rattle.product.specs.Products.{GivesProduct, multiplied, productOf, multipliedOf, sharesFlavor, generalProduct, leftContraction, rightContraction, innerProduct, outerProduct};
+ghost use Rattle.product.specs.Products.{GivesProduct, multiplied, multipliedOf, sharesFlavor, generalProduct, leftContraction, rightContraction, innerProduct, outerProduct};
 
 // Whether two flavors conform with no promotion.
 fn flavors_agree(f: Flavor, g: Flavor) -> bool

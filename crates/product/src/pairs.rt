@@ -5,7 +5,7 @@ use masks::flavor::Flavor;
 use masks::flavor::Metric;
 ghost use mathlib.Core.Path.{_≡_};
 ghost use mathlib.Core.Bool.{not, cond};
-ghost use Prim.Native.Nat.{_+_, _^_, _≤_};
+ghost use Prim.Native.Nat.{_-_, _*_, _^_, _≤_};
 ghost use Rattle.clifford.specs.Pairs.{nonzero, nulls};
 ghost use Rattle.masks.specs.Flavors.{metricOf, metricValue};
 ghost use Rattle.product.specs.Pairwise.{pairsOf};
@@ -48,18 +48,25 @@ fn power(base: u32, n: u8) -> u32
     p
 }
 
+// As many choices for each of `dims` basis vectors as `full` says, and for the null ones among them as `null_ones` says.
+fn choices(full: u32, null_ones: u32, dims: u8, null: u8) -> u32
+    requires { ⌜ (full ≤ 4) × («null_ones» ≤ 4) × (null ≤ dims) × (dims ≤ 9) ⌝ }
+    ensures { λ r. ⌜ (r ≡ full ^ (dims - null) * «null_ones» ^ null) × (r ≤ 262144) ⌝ }
+{
+    power(full, dims - null) * power(null_ones, null)
+}
+
 // The number of pairs that the mode takes and whose metric is not 0.
 pub(crate) fn pair_count(mode: Mode, flavor: Flavor, dims: u8) -> u32
     requires { ⌜ dims ≤ 9 ⌝ }
     ensures { λ r. ⌜ r ≡ pairsOf mode flavor dims ⌝ }
 {
     let null = null_count(flavor_for(mode, flavor), dims);
-    let other = dims - null;
     match mode {
-        Mode::All => power(4, other) * power(3, null),
-        Mode::Left => power(3, other) * power(2, null),
-        Mode::Right => power(3, other) * power(2, null),
-        Mode::Inner => 2 * (power(3, other) * power(2, null)) - power(2, other),
-        Mode::Outer => power(4, other) * power(3, null),
+        Mode::All => choices(4, 3, dims, null),
+        Mode::Left => choices(3, 2, dims, null),
+        Mode::Right => choices(3, 2, dims, null),
+        Mode::Inner => 2 * choices(3, 2, dims, null) - power(2, dims - null),
+        Mode::Outer => choices(4, 3, dims, null),
     }
 }

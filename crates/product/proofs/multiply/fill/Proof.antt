@@ -1,14 +1,8 @@
 -- `product::multiply::fill` meets its contract: the sums, snapped, are the product. Assumes nothing.
-use mathlib.Core.Path.{_≡_, refl, sym, ap, _∙_}
-use mathlib.Core.List.{map}
-use Prim.Native.Nat.{_^_}
-use lib.Ieee.{binary64}
-use lib.ListN.{length, take}
+use mathlib.Core.Path.{ap, _∙_}
+use lib.ListN.{length}
 use borrow.Author.Needs.{needs}
-use Rattle.rounding.specs.Snap.{snap}
-use Rattle.masks.specs.Outcome.{laid}
 use Rattle.masks.proofs.ShapeLaws.{holds-masks, holds-places}
-use Rattle.product.specs.Gathered.{sumsBelow}
 use Rattle.product.specs.ByOnes.{squaresBelow}
 use Rattle.product.proofs.SumsLaws.{sums-snapped}
 use Rattle.product.proofs.multiply.fill.Statement.{statement}

@@ -1,14 +1,9 @@
 -- `product::multiply::multiply` meets its contract: values that agree are multiplied as they stand. Assumes nothing.
-use mathlib.Core.Path.{_≡_, refl, sym, ap, _∙_}
-use mathlib.Core.Bool.{true}
-use lib.Dec.{eqb}
+use mathlib.Core.Path.{sym, _∙_}
 use lib.ListN.{length}
-use native.Mathlib.Omega.{arith}
 use borrow.Author.Needs.{needs}
 use borrow.Author.Tests.{not-false}
-use Rattle.masks.specs.Outcome.{refusal}
-use Rattle.product.specs.Products.{sharesFlavor}
-use Rattle.product.proofs.MultipliedLaws.{testsOf, Agreeing, agreeing, fits-agreeing, gives-agreeing-refused, gives-agreeing}
+use Rattle.product.proofs.MultipliedLaws.{agreeing, fits-agreeing, gives-agreeing-refused, gives-agreeing}
 use Rattle.product.proofs.multiply.multiply.Statement.{statement}
 use Rattle.product.proofs.multiply.multiply.Tie as tie
 

@@ -1,5 +1,5 @@
 -- `product::multiply::multiply_conformed` meets its contract: refused as conforming is, or for want of room; else the conformed values are multiplied. Assumes nothing.
-use mathlib.Core.Path.{_≡_, refl, sym, ap, _∙_}
+use mathlib.Core.Path.{_≡_, _∙_}
 use Prim.Native.Nat.{_-_, _^_, _≤_}
 use native.Mathlib.Omega.{arith}
 use borrow.Author.Needs.{needs}

@@ -1,7 +1,6 @@
 -- `product::multiply::multiply_same` meets its contract. Assumes nothing.
-use mathlib.Core.Path.{_≡_, ap}
+use mathlib.Core.Path.{ap}
 use borrow.Author.Needs.{needs}
-use Rattle.product.specs.declared.outcome.Product.{Product}
 use Rattle.product.proofs.multiply.multiply_same.Statement.{statement}
 use Rattle.product.proofs.multiply.multiply_same.Tie as tie
 

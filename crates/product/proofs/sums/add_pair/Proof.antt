@@ -1,5 +1,4 @@
 -- `product::sums::add_pair` meets its contract: 1.0 and -1.0 are the metric as a number. Assumes nothing.
-use mathlib.Core.Path.{_≡_, sym, ap, _∙_}
 use borrow.Author.Needs.{needs}
 use lib.Ieee.{ofBits, ofFields, neg}
 use Rattle.masks.specs.Flavors.{metricValue}

@@ -1,12 +1,11 @@
 -- `product::sums::add_row` meets its contract. The invariant: the first k places have their pair. Assumes nothing.
 use mathlib.Core.Path.{_≡_, refl, sym, ap, _∙_}
-use mathlib.Core.List.{List}
-use Prim.Native.Nat.{ℕ, _-_, _^_, _≤_, _<_}
+use Prim.Native.Nat.{_-_, _^_, _≤_, _<_}
 use native.Mathlib.Omega.{arith}
 use lib.Ieee.{Float, nan, binary64}
 use lib.ListN.{length, getD, length-set}
 use Rattle.masks.specs.declared.flavor.Flavor.{Flavor}
-use Rattle.masks.proofs.ListLaws.{front, front-length, front-step, front-all}
+use Rattle.masks.proofs.ListLaws.{front, front-step, front-all}
 use Rattle.product.specs.Modes.{flavorFor}
 use Rattle.product.specs.Gathered.{withTerm, pairFor, withRow}
 use Rattle.product.specs.ByOnes.{squaresBelow, bladeOf}

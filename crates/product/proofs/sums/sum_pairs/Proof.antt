@@ -1,18 +1,16 @@
 -- `product::sums::sum_pairs` meets its contract. The invariant: the places have the sums of b's places below j. Assumes nothing.
-use mathlib.Core.Path.{_≡_, refl, sym, ap, _∙_}
-use Prim.Native.Nat.{ℕ, suc, _-_, _^_, _≤_, _<_}
+use mathlib.Core.Path.{_≡_, refl, ap, _∙_}
+use Prim.Native.Nat.{ℕ, _-_, _^_, _≤_, _<_}
 use native.Mathlib.Nat.{lt-of-lt-of-le}
 use native.Mathlib.Omega.{arith}
-use native.Mathlib.Numerals.{add-one}
-use lib.Ieee.{nan}
 use lib.ListN.{length, getD}
 use Rattle.masks.specs.declared.flavor.Flavor.{Flavor}
 use Rattle.masks.specs.Outcome.{laid}
 use Rattle.masks.proofs.OrderLaws.{blades-le, mask-read, order-at}
 use Rattle.product.specs.Modes.{flavorFor}
 use Rattle.product.specs.Pairwise.{maskAt}
-use Rattle.product.specs.Gathered.{withRow, sumsBelow}
-use Rattle.product.specs.ByOnes.{squaresBelow, bladeOf}
+use Rattle.product.specs.Gathered.{sumsBelow}
+use Rattle.product.specs.ByOnes.{squaresBelow}
 use Rattle.product.proofs.SumsLaws.{blade-mask, blade-kept, sums-start, sums-over, sums-next}
 use Rattle.product.proofs.sums.sum_pairs.Statement.{statement}
 use Rattle.product.proofs.sums.sum_pairs.Tie as tie
