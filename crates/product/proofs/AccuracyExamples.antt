@@ -30,7 +30,8 @@ use Rattle.product.specs.Modes.{takes, flavorFor, pairMetric}
 use Rattle.product.specs.Pairwise.{metricAt, placeAt}
 use Rattle.product.specs.Gathered.{gathered, sumAt}
 use Rattle.product.specs.Products.{Counted, multiplied}
-use Rattle.product.specs.Accuracy.{contributes, contributing, exactSizes, exactSum, Holds, Fitting, InBounds, Near, ExactCase, IsExactly, EqualNumbers, times, reversed}
+use Rattle.product.specs.Accuracy.{contributes, contributing, exactSizes, exactSum, Holds, Fitting, InBounds, LiesWithin, ExactCase, IsExactly, EqualNumbers, times}
+use Rattle.product.specs.Reverse.{reversed}
 use Rattle.product.proofs.MultipliedLaws.{multiplied-same}
 use Rattle.product.proofs.GatherLaws.{product-gathered}
 use Rattle.product.proofs.AccuracyLaws.{bound, exact}
@@ -140,7 +141,7 @@ wide-holds = holds wide (unfold isValue wide fits in tt)
 -- ---- the bound, for each mode and flavor
 
 bounded : (mode : Mode) (f : Flavor) (k : ℕ) → k < 4
-    → Near (getD (multiplied mode (plane f) (plane f) a wide 4 .outcome .coefs) k nan)
+    → LiesWithin (getD (multiplied mode (plane f) (plane f) a wide 4 .outcome .coefs) k nan)
     (suc (contributing mode f 2 k) * exactSizes mode f 2 k 452 452 a wide + 2 ^ 53 * 2 ^ 858) (exactSum mode f 2 k 452 452 a wide)
 bounded mode f =
     bound mode (plane f) 4 a wide (fitting f) a-holds wide-holds (inBounds a (unfold isSized a in tt)) (inBounds wide (unfold isSized wide in tt))

@@ -23,7 +23,7 @@ use Rattle.masks.proofs.OrderLaws.{blades-le}
 use Rattle.product.specs.declared.mode.Mode.{Mode}
 use Rattle.product.specs.Gathered.{gathered, sumAt}
 use Rattle.product.specs.Products.{multiplied}
-use Rattle.product.specs.Accuracy.{valueIn, above, beneath, contributing, exactSizes, exactSum, Holds, Fitting, InBounds, Multiples, Near, ExactCase, IsExactly}
+use Rattle.product.specs.Accuracy.{valueIn, above, beneath, contributing, exactSizes, exactSum, Holds, Fitting, InBounds, Multiples, LiesWithin, ExactCase, IsExactly}
 use Rattle.product.proofs.GatherLaws.{product-at}
 use Rattle.product.proofs.MultipliedLaws.{multiplied-same}
 use Rattle.product.proofs.Partners.{partner-place}
@@ -85,7 +85,7 @@ module _ (mode : Mode) (s : Shape) (room : ℕ) (a b : List Float) (t : Fitting 
 
   -- Each coefficient lies within (n + 1) x T x 2 ^ -53 plus 2 ^ -46 of the exact sum: in units of 2 ^ -904, of which 2 ^ -46 is 2 ^ 858.
   pub bound : InBounds (s .dims) a → InBounds (s .dims) b → (k : ℕ) → k < 2 ^ s .dims
-      → Near (getD (multiplied mode s s a b room .outcome .coefs) k nan)
+      → LiesWithin (getD (multiplied mode s s a b room .outcome .coefs) k nan)
       (suc (contributing mode (s .flavor) (s .dims) k) * exactSizes mode (s .flavor) (s .dims) k 452 452 a b + 2 ^ 53 * 2 ^ 858)
       (exactSum mode (s .flavor) (s .dims) k 452 452 a b)
   bound x y k h =

@@ -19,7 +19,8 @@ use Rattle.product.specs.Pairwise.{maskAt}
 use Rattle.product.specs.Gathered.{gathered, sumAt}
 use Rattle.product.specs.Products.{Counted}
 use Rattle.product.specs.Whole.{whole}
-use Rattle.product.specs.Accuracy.{valueAt, Holds, Fitting, ExactCase, IsExactly, EqualNumbers, times, reversed}
+use Rattle.product.specs.Accuracy.{valueAt, Holds, Fitting, ExactCase, IsExactly, EqualNumbers, times}
+use Rattle.product.specs.Reverse.{reversed}
 use Rattle.product.proofs.MultipliedLaws.{multiplied-same}
 use Rattle.product.proofs.GatherLaws.{product-length, product-at}
 use Rattle.product.proofs.AccuracyLaws.{exact}

@@ -32,7 +32,8 @@ use Rattle.masks.proofs.ShapeLaws.{coef-inside, ordered-length}
 use Rattle.product.specs.declared.mode.Mode.the-variants.{All}
 use Rattle.product.specs.Modes.{takes, flavorFor, pairMetric}
 use Rattle.product.specs.Pairwise.{maskAt, metricAt, placeAt}
-use Rattle.product.specs.Accuracy.{valueIn, sizeAt, valueAt, contributes, exactSizes, Holds, Multiples, ExactCase, reversed}
+use Rattle.product.specs.Accuracy.{valueIn, sizeAt, valueAt, contributes, exactSizes, Holds, Multiples, ExactCase}
+use Rattle.product.specs.Reverse.{reversed}
 use Rattle.product.proofs.PairsTotal.{total-swap}
 
 -- ---- one number

@@ -1,10 +1,9 @@
 -- How near to exact a product is: what demand 3 speaks of, for one coefficient. Assumes nothing.
 use mathlib.Core.Path.{_≡_}
-use mathlib.Core.Bool.{Bool, not, _&&_, cond}
-use mathlib.Core.List.{List, map}
-use Prim.Native.Nat.{ℕ, suc, _+_, _*_, _%_, _^_, _≤_, _<_}
-use lib.Count.{ones}
-use lib.Dec.{T, eqb, ltb}
+use mathlib.Core.Bool.{Bool, _&&_, cond}
+use mathlib.Core.List.{List}
+use Prim.Native.Nat.{ℕ, suc, _+_, _*_, _^_, _≤_, _<_}
+use lib.Dec.{T, eqb}
 use lib.Ieee.{Float, nan, binary64, eq, fits}
 use lib.IntN.{ℤ, pos, negsuc, negℤ, _*ℤ_}
 use lib.ListN.{getD, length}
@@ -15,8 +14,6 @@ use Rattle.rounding.specs.Value.{signOf, sizeIn, Whole, Close}
 use Rattle.rounding.specs.Sized.{Sized}
 use Rattle.masks.specs.declared.flavor.Flavor.{Flavor}
 use Rattle.masks.specs.declared.shape.Shape.{Shape}
-use Rattle.masks.specs.Order.{order}
-use Rattle.masks.specs.Shapes.{coef, negatedIf}
 use Rattle.product.specs.declared.mode.Mode.{Mode}
 use Rattle.product.specs.Pairwise.{metricAt, placeAt}
 use Rattle.product.specs.Products.{generalProduct}
@@ -91,8 +88,8 @@ abbrev pub Multiples : ℕ → ℕ → List Float → Type 0
 Multiples p d a = (i : ℕ) → i < 2 ^ d → Whole p (getD a i nan)
 
 -- x lies within c units of 2 ^ -957, that is of 2 ^ -904 x 2 ^ -53, of the exact e units of 2 ^ -904.
-abbrev pub Near : Float → ℕ → ℤ → Type 0
-Near x c e = Close binary64 904 x c (above e) (beneath e)
+abbrev pub LiesWithin : Float → ℕ → ℤ → Type 0
+LiesWithin x c e = Close binary64 904 x c (above e) (beneath e)
 
 -- The exact case: finite multiples of 2 ^ -p and 2 ^ -q, p + q at most 46, T at most 2 ^ 53 units of 2 ^ -(p + q).
 pub record ExactCase (mode : Mode) (flavor : Flavor) (d : ℕ) (a b : List Float) : Type 0 where
@@ -110,7 +107,3 @@ IsExactly u x e = Whole u x × (valueIn u x ≡ e)
 -- Two values are equal as numbers, -0 being equal to +0.
 abbrev pub EqualNumbers : ℕ → List Float → List Float → Type 0
 EqualNumbers d a b = (k : ℕ) → k < 2 ^ d → T (eq (getD a k nan) (getD b k nan))
-
--- `reversed` negates grades 2, 3 mod 4.
-unfoldable pub reversed : ℕ → List Float → List Float
-reversed d a = map (λ m. negatedIf (not (ltb (ones m % 4) 2)) (coef d a m)) (order d)

@@ -6,3 +6,4 @@ pub mod ByOnes
 pub mod Products
 pub mod Whole
 pub mod Accuracy
+pub mod Reverse
