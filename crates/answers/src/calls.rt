@@ -6,6 +6,8 @@ use masks::order;
 use masks::outcome::Answer;
 use masks::outcome::Count;
 use masks::shape::Shape;
+use product::multiply;
+use product::outcome::Product;
 
 fn byte(x: u64) -> u8 {
     (x % 256) as u8
@@ -105,6 +107,14 @@ fn put_count(r: Count, outs: &mut [u64; 16]) -> usize {
     outs[0] = r.number as u64;
     outs[1] = r.count as u64;
     2
+}
+
+fn put_product(r: Product, outs: &mut [u64; 16]) -> usize {
+    outs[0] = r.number as u64;
+    let s = r.shape;
+    put_shape(s, outs);
+    outs[6] = r.pairs as u64;
+    7
 }
 
 // Numbers below 2 ^ 16 as an output.
@@ -364,6 +374,25 @@ fn make_built(
     }
 }
 
+fn make_product(
+    op: u64,
+    ins: &[u64; 16],
+    a: &[f64],
+    b: &[f64],
+    out: &mut [f64],
+    outs: &mut [u64; 16],
+) -> usize {
+    let s = shape_in(ins);
+    let t = second_shape(ins);
+    match op {
+        27 => put_product(multiply::general_product(s, t, a, b, out), outs),
+        28 => put_product(multiply::left_contraction(s, t, a, b, out), outs),
+        29 => put_product(multiply::right_contraction(s, t, a, b, out), outs),
+        30 => put_product(multiply::inner_product(s, t, a, b, out), outs),
+        _ => put_product(multiply::outer_product(s, t, a, b, out), outs),
+    }
+}
+
 // The call of a number. How many words come out; 0 for no call.
 pub fn make(
     op: u64,
@@ -385,6 +414,7 @@ pub fn make(
         14..=19 => make_built(op, ins, a, b, out, outs),
         7..=13 | 20..=25 => make_shaped(op, ins, a, b, out, right, outs),
         26 => null_flavor(outs),
+        27..=31 => make_product(op, ins, a, b, out, outs),
         _ => 0,
     }
 }

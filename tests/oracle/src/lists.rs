@@ -4,7 +4,7 @@ use crate::masks::*;
 use crate::numbers::{Rng, SPECIAL};
 
 /// Flavors as words, Cl with null and negative indices, and one that has no index left.
-const FLAVORS: [[u64; 4]; 6] = [[0, 0, 0, 0], [1, 0, 0, 0], [2, 3, 0, 1], [2, 1, 2, 0], [2, 0, 1, 1], [2, 0, 0, 255]];
+pub const FLAVORS: [[u64; 4]; 6] = [[0, 0, 0, 0], [1, 0, 0, 0], [2, 3, 0, 1], [2, 1, 2, 0], [2, 0, 1, 1], [2, 0, 0, 255]];
 
 fn flavor(r: &mut Rng) -> [u64; 4] {
     match r.below(8) {
@@ -16,7 +16,7 @@ fn flavor(r: &mut Rng) -> [u64; 4] {
 }
 
 /// Dimensions from 0 to 9, small ones more often, and now and then more than 9.
-fn dims(r: &mut Rng, most: usize) -> u64 {
+pub fn dims(r: &mut Rng, most: usize) -> u64 {
     match r.below(20) {
         0 => r.pick(&[10, 11, 64, 255]),
         1..=3 => r.below(most + 1) as u64,
@@ -25,7 +25,7 @@ fn dims(r: &mut Rng, most: usize) -> u64 {
 }
 
 /// A count that is right, but now and then one off or none; dims above 9 have few numbers.
-fn around(r: &mut Rng, d: u64) -> usize {
+pub fn around(r: &mut Rng, d: u64) -> usize {
     let n = if d > 9 { r.below(20) } else { 1 << d };
     match r.below(12) {
         0 => n + 1,
@@ -36,7 +36,7 @@ fn around(r: &mut Rng, d: u64) -> usize {
 }
 
 /// Room for a result of d dimensions, with some to spare, just enough, or too little.
-fn room(r: &mut Rng, d: u64) -> usize {
+pub fn room(r: &mut Rng, d: u64) -> usize {
     let n: usize = if d > 9 { 520 } else { 1 << d };
     match r.below(8) {
         0 => n.saturating_sub(1),

@@ -1,35 +1,82 @@
 //! Writes calls with the Rust's answers, a line each, for the program `answers` to replay. See README.md.
+mod demand;
+mod exact;
 mod line;
 mod lists;
 mod masks;
 mod numbers;
+mod product_lists;
+mod products;
+mod rules;
 
 use std::io::{self, BufWriter, Write};
 
-/// The answer with one thing wrong: its number, a bit of its last number, or its last number not written.
+/// The answer with one thing wrong: a bit of its last number (a NaN becomes a zero), its last number not written, its last word,
+/// or its first.
 fn wrong(mut a: line::Answer, kind: u64) -> line::Answer {
-    match (kind % 3, a.out.pop()) {
-        (1, Some(x)) => a.out.push(f64::from_bits(x.to_bits() ^ 1)),
+    let last = a.words.len() - 1;
+    match (kind % 4, a.out.pop()) {
+        (1, Some(x)) => a.out.push(if x.is_nan() { 0.0 } else { f64::from_bits(x.to_bits() ^ 1) }),
         (2, Some(_)) => {}
-        (_, x) => {
+        (kind, x) => {
             a.out.extend(x);
-            a.words[0] += 1
+            a.words[if kind == 3 { last } else { 0 }] += 1
         }
     }
     a
 }
 
+/// What comes out of a call.
+fn answer(c: &line::Call) -> line::Answer {
+    if products::ALL.contains(&c.op) { products::answer(c) } else { masks::answer(c) }
+}
+
+/// The stored list: some of each call, of few dimensions, and the snap's edges.
+fn stored(each: &mut impl FnMut(line::Call)) {
+    let mut r = numbers::Rng(1);
+    each(line::Call { op: masks::NULL_FLAVOR, ..line::Call::default() });
+    for op in masks::ALL {
+        for i in 0..120 {
+            each(lists::random(&mut r, op, if i < 4 { 9 } else { 4 }));
+        }
+    }
+    for op in products::ALL {
+        for i in 0..120 {
+            each(product_lists::random(&mut r, op, if i % 10 == 0 { 5 } else { 2 }));
+        }
+    }
+    product_lists::finite_edges(each);
+}
+
+/// All that is small, then so many of each call from a seed, and the products that `exact` checks.
+fn compared(count: u64, seed: u64, each: &mut impl FnMut(line::Call)) {
+    let mut r = numbers::Rng(seed);
+    lists::exhaustive(&mut r, each);
+    product_lists::exhaustive(&mut r, each);
+    for _ in 0..count {
+        for op in masks::ALL {
+            each(lists::random(&mut r, op, 9));
+        }
+        for op in products::ALL {
+            each(product_lists::random(&mut r, op, 9));
+        }
+    }
+    product_lists::demanded(count, seed, &mut |_, c| each(c));
+}
+
+/// Writes a list, or the stored one with every hundredth answer wrong; or says what `exact` finds.
 fn main() -> io::Result<()> {
     std::panic::set_hook(Box::new(|_| {}));
     let args: Vec<String> = std::env::args().skip(1).collect();
-    let number = |i: usize| args.get(i).and_then(|w| w.parse().ok());
+    let number = |i: usize| args.get(i).and_then(|w| w.parse::<u64>().ok());
+    let (count, seed) = (number(1).unwrap_or(2_000), number(2).unwrap_or(2));
     let mut out = BufWriter::new(io::stdout().lock());
     let mut made = 0u64;
     let mut failed = Ok(());
     let damaged = args.first().is_some_and(|w| w == "wrong");
     let mut each = |c: line::Call| {
         made += 1;
-        let mut answer = masks::answer(&c);
+        let mut answer = answer(&c);
         if damaged && made % 100 == 0 {
             answer = wrong(answer, made / 100)
         }
@@ -39,28 +86,14 @@ fn main() -> io::Result<()> {
         }
     };
     match args.first().map(String::as_str) {
-        // The stored list: some of each call, of few dimensions; and the same with every hundredth answer wrong.
-        Some("stored" | "wrong") => {
-            let mut r = numbers::Rng(1);
-            each(line::Call { op: masks::NULL_FLAVOR, ..line::Call::default() });
-            for op in masks::ALL {
-                for i in 0..120 {
-                    each(lists::random(&mut r, op, if i < 4 { 9 } else { 4 }));
-                }
-            }
-        }
-        // All that is small, and then so many of each call from a seed.
-        Some("compare") => {
-            let mut r = numbers::Rng(number(2).unwrap_or(2));
-            lists::exhaustive(&mut r, &mut each);
-            for _ in 0..number(1).unwrap_or(2_000) {
-                for op in masks::ALL {
-                    each(lists::random(&mut r, op, 9));
-                }
-            }
+        Some("stored" | "wrong") => stored(&mut each),
+        Some("compare") => compared(count, seed, &mut each),
+        Some("exact") => {
+            demand::check(count, seed);
+            return Ok(());
         }
         _ => {
-            eprintln!("usage: oracle stored | oracle wrong | oracle compare [COUNT [SEED]]");
+            eprintln!("usage: oracle stored | oracle wrong | oracle compare [COUNT [SEED]] | oracle exact [COUNT [SEED]]");
             std::process::exit(2);
         }
     }

@@ -1,6 +1,6 @@
 //! The calls of the crate `masks`: the refusals as the project's documents order them, and the Rust's own answers.
 use crate::line::{Answer, Call};
-use std::panic::{AssertUnwindSafe, catch_unwind};
+use crate::rules::*;
 use uiua::SubSide;
 use uiua_parser::multivector::harness as rust;
 use uiua_parser::*;
@@ -35,56 +35,6 @@ pub const NULL_FLAVOR: u64 = 26;
 
 /// Every call that takes something, in the order of its numbers.
 pub const ALL: std::ops::RangeInclusive<u64> = GRADE_SIZE..=UNPACK_VECTOR;
-
-/// A refusal's number.
-type Given<T> = Result<T, u64>;
-
-fn flavor(w: &[u64]) -> Flavor {
-    match w[0] {
-        0 => Flavor::Vanilla,
-        1 => Flavor::Projective,
-        _ => Flavor::Cl(w[1] as u8, w[2] as u8, w[3] as u8),
-    }
-}
-
-fn flavor_words(f: Flavor) -> [u64; 4] {
-    match f {
-        Flavor::Vanilla => [0, 0, 0, 0],
-        Flavor::Projective => [1, 0, 0, 0],
-        Flavor::Cl(p, n, z) => [2, p as u64, n as u64, z as u64],
-    }
-}
-
-fn shape_words(m: &Multivector) -> Vec<u64> {
-    [vec![m.dims() as u64], flavor_words(m.flavor).to_vec()].concat()
-}
-
-/// The first of some tests that fails gives its number.
-fn unless(fails: bool, number: u64) -> Given<()> {
-    if fails { Err(number) } else { Ok(()) }
-}
-fn dims(d: u64) -> Given<()> {
-    unless(d > 9, 1)
-}
-fn count(list: &[f64], d: u64) -> Given<()> {
-    unless(list.len() != 1 << d, 2)
-}
-fn room(room: usize, needed: usize) -> Given<()> {
-    unless(room < needed, 3)
-}
-
-fn promotes(f: Flavor, g: Flavor) -> u64 {
-    (f == Flavor::Vanilla && g == Flavor::Projective) as u64
-}
-
-/// The Rust's own result; it is not to panic where a call is not refused.
-fn run<T>(f: impl FnOnce() -> T) -> T {
-    catch_unwind(AssertUnwindSafe(f)).expect("the Rust panics where nothing is refused")
-}
-
-fn value(m: Multivector) -> Answer {
-    Answer { words: [vec![0], shape_words(&m)].concat(), out: rust::coefs(&m).to_vec(), right: vec![] }
-}
 
 fn list(v: Vec<f64>) -> Answer {
     Answer { words: vec![0, v.len() as u64], out: v, right: vec![] }
@@ -177,20 +127,10 @@ fn done(c: &Call) -> Given<Answer> {
             })))
         }
         CONFORM => {
-            let (f, g) = (flavor(&w[1..]), flavor(&w[6..]));
-            dims(w[0])?;
-            dims(w[5])?;
-            let n = (w[0] + promotes(f, g)).max(w[5] + promotes(g, f));
-            dims(n)?;
-            count(&c.a, w[0])?;
-            count(&c.b, w[5])?;
+            let (mut a, mut b, n) = two_values(c)?;
             room(c.room, 1 << n)?;
             room(c.room_right, 1 << n)?;
-            let (a, b) = run(|| {
-                let (mut a, mut b) = (made(), rust::make(g, &c.b));
-                rust::conform(&mut a, &mut b);
-                (a, b)
-            });
+            run(|| rust::conform(&mut a, &mut b));
             Ok(Answer {
                 words: [vec![0], shape_words(&a), shape_words(&b)].concat(),
                 out: rust::coefs(&a).to_vec(),
