@@ -17,7 +17,7 @@ use Rattle.masks.specs.Outcome.{Test, refusal, tooMany, wrongCount, noRo
 use Rattle.masks.specs.Shapes.{withDims, resized, setDims, promotes, promoted, setFlavor, conformed, promotedFlavor, conformedShape, conform}
 use Rattle.masks.proofs.ListLaws.{take-laid}
 use Rattle.masks.proofs.RefusalLaws.{past, Taken, taken, later-same, needed-same, unless-done}
-use Rattle.masks.proofs.ShapeLaws.{count-small, one, resized-length, resized-back, promoted-length}
+use Rattle.masks.proofs.ShapeLaws.{count-small, one, resized-length, resized-same, resized-back, promoted-length}
 
 -- ---- conforming
 
@@ -30,6 +30,17 @@ pub conformed-one : (up d n count : ℕ) (a held buf : List Float) → up ≤ 1 
 unfolding conformed
 conformed-one up d n count a held buf l h c e =
     rw (e, c, take-laid (2 ^ (d + 1)) (promoted 1 d a) buf (promoted-length d a)) (ap (λ (u : ℕ). resized (d + u) n (promoted u d a)) (one up l h))
+
+promoted-sized : (up d : ℕ) (a : List Float) → up ≤ 1 → length a ≡ 2 ^ d → length (promoted up d a) ≡ 2 ^ (d + up)
+unfolding promoted
+promoted-sized zero d a l e = e ∙ ap (λ (n : ℕ). 2 ^ n) (sym (add-zero d))
+promoted-sized (suc zero) d a l e = promoted-length d a
+promoted-sized (suc (suc up)) d a l e = absurd (omega arith)
+
+-- where nothing is grown, a promotion is all
+pub conformed-same : (up d n : ℕ) (a : List Float) → up ≤ 1 → d + up ≡ n → n ≤ 9 → length a ≡ 2 ^ d → conformed up d n a ≡ promoted up d a
+unfolding conformed
+conformed-same up d n a l e h k = rw (sym e) (resized-same (d + up) (promoted up d a) (rw e h) (promoted-sized up d a l k))
 
 pub promotes-le : (f g : Flavor) → promotes f g ≤ 1
 unfolding promotes

@@ -143,10 +143,9 @@ module _ (turned dims : ℕ) (a : List Float) (t : 512 ≤ turned) where
         g
         ∙ rw (e, vector-held d, unturned (take d (drop 1 (order d))) (low-take 512 d (drop 1 (order d)) (low-drop 512 1 (order d) (low-order d l))))
 
-    pub half-read : (odd lone n count : ℕ) (chosen : List ℕ) → (d ≡ 0 → ⊥) → n ≡ 2 ^ d → take count chosen ≡ choose odd (take n ms) → after ≡ laid (map (moved turned dims a) (take count (drop 0 chosen))) before → after ≡ laid (map (coef dims a) (halfMasks odd lone d)) before
-    half-read odd lone n count chosen s q h g =
-        g
-        ∙ rw (h, e, q, take-masks d, half-masks odd lone d s, unturned (choose odd (order d)) (low-choose 512 odd (order d) (low-order d l)))
+    pub half-read : (odd n count : ℕ) (chosen : List ℕ) → n ≡ 2 ^ d → take count chosen ≡ choose odd (take n ms) → after ≡ laid (map (moved turned dims a) (take count (drop 0 chosen))) before → after ≡ laid (map (coef dims a) (choose odd (order d))) before
+    half-read odd n count chosen q h g =
+        g ∙ rw (h, e, q, take-masks d, unturned (choose odd (order d)) (low-choose 512 odd (order d) (low-order d l)))
 
 -- ---- what the code holds and answers
 

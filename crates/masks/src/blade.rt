@@ -25,7 +25,7 @@ ghost use mathlib.Core.Bool.{not};
 ghost use Prim.Native.Nat.{_-_, _≤_, _<_, _^_};
 ghost use lib.Dec.{ltb};
 ghost use lib.ListN.{length, set};
-ghost use Rattle.masks.specs.Order.{place};
+ghost use Rattle.masks.specs.Order.{place, placesOf};
 ghost use Rattle.masks.specs.Outcome.{Gives, refusal, tooMany, wrongCount, noRoom, laid};
 ghost use Rattle.masks.specs.Shapes.{getBlade, setBlade, bladeDims, gradeRefusal, gradePart};
 
@@ -61,13 +61,12 @@ fn set_blade_refusal(dims: u8, mask: usize, count: usize, room: usize) -> u8
 }
 
 // A value with x at a mask that it has.
-fn put_blade(dims: u8, mask: usize, x: f64, a: &[f64], out: &mut [f64])
-    requires { ⌜ (dims ≤ 9) × (mask < 2 ^ dims) × (length (now a) ≡ 2 ^ dims) × (2 ^ dims ≤ length (now out)) ⌝ }
+fn put_blade(dims: u8, places: &[u16; 512], mask: usize, x: f64, a: &[f64], out: &mut [f64])
+    requires { ⌜ (dims ≤ 9) × (now places ≡ placesOf dims) × (mask < 2 ^ dims) × (length (now a) ≡ 2 ^ dims) × (2 ^ dims ≤ length (now out)) ⌝ }
     ensures { λ _. ⌜ now (out .exit) ≡ laid (set (now (a .entry)) (place dims mask) x) (now (out .entry)) ⌝ }
 {
-    let o = order_of(dims);
     copy_all(a, out);
-    let p = o.places[mask] as usize;
+    let p = places[mask] as usize;
     out[p] = x;
 }
 
@@ -100,12 +99,14 @@ impl Shape {
         if no != DONE {
             return refused(no);
         }
+        let o = order_of(dims);
         if mask < blades(dims) {
-            put_blade(dims, mask, x, a, out);
+            put_blade(dims, &o.places, mask, x, a, out);
             return done(self);
         }
+        let next = order_of(dims + 1);
         let mut held = [0.0; 512];
-        resize(dims, dims + 1, a, &mut held);
+        resize(dims, dims + 1, &next.masks, &o.places, a, &mut held);
         let count = blades(dims + 1);
         self.with_dims(dims + 1)
             .set_blade(mask, x, &held[..count], out)

@@ -6,7 +6,7 @@ ghost use mathlib.Core.Path.{_≡_};
 ghost use mathlib.Core.List.{map};
 ghost use Prim.Native.Nat.{_+_, _^_, _≤_, _<_};
 ghost use lib.ListN.{length, take, drop};
-ghost use Rattle.masks.specs.Order.{placesOf};
+ghost use Rattle.masks.specs.Order.{masksOf, placesOf};
 ghost use Rattle.masks.specs.Outcome.{laid};
 ghost use Rattle.masks.specs.Shapes.{coef, moved, negatedIf, turnedMask, resized, lowered, promoted, conformed};
 
@@ -91,28 +91,21 @@ fn turned_mask(dims: u8, new_dims: u8) -> u16
     NO_MASK
 }
 
-// A value at other dimensions.
-pub(crate) fn resize(dims: u8, new_dims: u8, a: &[f64], out: &mut [f64])
+// A value at other dimensions: the masks are of the new ones, and the places of the old.
+pub(crate) fn resize<'o>(
+    dims: u8,
+    new_dims: u8,
+    masks: &'o [u16; 512],
+    places: &'o [u16; 512],
+    a: &[f64],
+    out: &mut [f64],
+)
     requires { ⌜ (dims ≤ 9) × («new_dims» ≤ 9) × (length (now a) ≡ 2 ^ dims) × (2 ^ «new_dims» ≤ length (now out)) ⌝ }
+    requires { ⌜ (now masks ≡ masksOf «new_dims») × (now places ≡ placesOf dims) ⌝ }
     ensures { λ _. ⌜ now (out .exit) ≡ laid (resized dims «new_dims» (now (a .entry))) (now (out .entry)) ⌝ }
 {
-    if dims == new_dims {
-        copy_all(a, out);
-        return;
-    }
-    let from = order_of(dims);
-    let to = order_of(new_dims);
     let turned = turned_mask(dims, new_dims);
-    gather(
-        &to.masks,
-        0,
-        blades(new_dims),
-        dims,
-        &from.places,
-        turned,
-        a,
-        out,
-    );
+    gather(masks, 0, blades(new_dims), dims, places, turned, a, out);
 }
 
 // The masks that the first n come from where bit i has become bit i + 1.
@@ -138,42 +131,58 @@ fn lower(m: u16) -> u16
     if m % 2 == 0 { m / 2 } else { NO_MASK }
 }
 
-// A value at one dimension more, its bit i become bit i + 1.
-fn promote(dims: u8, a: &[f64], out: &mut [f64])
+// A value at one dimension more, its bit i become bit i + 1: the masks are of the new dimensions, and the places of the old.
+fn promote<'o>(dims: u8, masks: &'o [u16; 512], places: &'o [u16; 512], a: &[f64], out: &mut [f64])
     requires { ⌜ (dims < 9) × (length (now a) ≡ 2 ^ dims) × (2 ^ (dims + 1) ≤ length (now out)) ⌝ }
+    requires { ⌜ (now masks ≡ masksOf (dims + 1)) × (now places ≡ placesOf dims) ⌝ }
     ensures { λ _. ⌜ now (out .exit) ≡ laid (promoted 1 dims (now (a .entry))) (now (out .entry)) ⌝ }
 {
     let n = blades(dims + 1);
-    let from = order_of(dims);
-    let to = order_of(dims + 1);
     let mut lowered = zeros();
-    lower_masks(n, &to.masks, &mut lowered);
-    gather(&lowered, 0, n, dims, &from.places, UNTURNED, a, out);
+    lower_masks(n, masks, &mut lowered);
+    gather(&lowered, 0, n, dims, places, UNTURNED, a, out);
 }
 
-// A value promoted by `up` dimensions, 0 or 1.
-pub(crate) fn promote_by(up: u8, dims: u8, a: &[f64], out: &mut [f64])
-    requires { ⌜ (up ≤ 1) × (dims + up ≤ 9) × (length (now a) ≡ 2 ^ dims) × (2 ^ (dims + up) ≤ length (now out)) ⌝ }
-    ensures { λ _. ⌜ now (out .exit) ≡ laid (promoted up dims (now (a .entry))) (now (out .entry)) ⌝ }
-{
-    if up == 0 {
-        copy_all(a, out);
-        return;
-    }
-    promote(dims, a, out);
-}
-
-// A value promoted by `up` dimensions, 0 or 1, and then at others.
-pub(crate) fn conform_one(up: u8, dims: u8, new_dims: u8, a: &[f64], out: &mut [f64])
+// A value promoted by `up` dimensions, 0 or 1, and then at others. Only an order between the two that are lent is built.
+pub(crate) fn conform_by<'o>(
+    up: u8,
+    dims: u8,
+    new_dims: u8,
+    masks: &'o [u16; 512],
+    places: &'o [u16; 512],
+    a: &[f64],
+    out: &mut [f64],
+)
     requires { ⌜ (up ≤ 1) × (dims + up ≤ 9) × («new_dims» ≤ 9) × (length (now a) ≡ 2 ^ dims) × (2 ^ «new_dims» ≤ length (now out)) ⌝ }
+    requires { ⌜ (now masks ≡ masksOf «new_dims») × (now places ≡ placesOf dims) ⌝ }
     ensures { λ _. ⌜ now (out .exit) ≡ laid (conformed up dims «new_dims» (now (a .entry))) (now (out .entry)) ⌝ }
 {
     if up == 0 {
-        resize(dims, new_dims, a, out);
+        resize(dims, new_dims, masks, places, a, out);
         return;
     }
+    if dims + 1 == new_dims {
+        promote(dims, masks, places, a, out);
+        return;
+    }
+    let next = order_of(dims + 1);
     let mut held = [0.0; 512];
-    promote(dims, a, &mut held);
+    promote(dims, &next.masks, places, a, &mut held);
     let count = blades(dims + 1);
-    resize(dims + 1, new_dims, &held[..count], out);
+    resize(dims + 1, new_dims, masks, &next.places, &held[..count], out);
+}
+
+// The same of a value by itself: where the dimensions stay, it is copied and no order is built.
+pub(crate) fn conform_one(up: u8, dims: u8, new_dims: u8, a: &[f64], out: &mut [f64])
+    requires { ⌜ (up ≤ 1) × (dims + up ≤ 9) × («new_dims» ≤ 9) × (length (now a) ≡ 2 ^ dims) × (2 ^ «new_dims» ≤ length (now out)) ⌝ }
+    requires { ⌜ (dims ≡ «new_dims» → up ≡ 0) ⌝ }
+    ensures { λ _. ⌜ now (out .exit) ≡ laid (conformed up dims «new_dims» (now (a .entry))) (now (out .entry)) ⌝ }
+{
+    if dims == new_dims {
+        copy_all(a, out);
+        return;
+    }
+    let from = order_of(dims);
+    let to = order_of(new_dims);
+    conform_by(up, dims, new_dims, &to.masks, &from.places, a, out);
 }

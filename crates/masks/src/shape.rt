@@ -1,9 +1,9 @@
 // Shapes and their changes.
 use super::flavor::Flavor;
+use super::gather::conform_by;
 use super::gather::conform_one;
-use super::gather::promote_by;
-use super::gather::resize;
 use super::order::blade_count;
+use super::order::order_of;
 use super::outcome::Answer;
 use super::outcome::Answers;
 use super::outcome::DONE;
@@ -21,8 +21,8 @@ ghost use mathlib.Core.List.{[], _∷_};
 ghost use Prim.Native.Nat.{_+_, _^_, _≤_, max};
 ghost use lib.Dec.{ltb};
 ghost use lib.ListN.{length};
-ghost use Rattle.masks.specs.Outcome.{Gives, GivesBoth, refusal, tooMany, wrongCount, noRoom};
-ghost use Rattle.masks.specs.Shapes.{withDims, withFlavor, promotes, conformedShape, setDims, setFlavor, conformTo, conform};
+ghost use Rattle.masks.specs.Outcome.{Gives, GivesBoth, refusal, tooMany, wrongCount, noRoom, laid};
+ghost use Rattle.masks.specs.Shapes.{withDims, withFlavor, promotes, conformed, conformedShape, setDims, setFlavor, conformTo, conform};
 
 pub struct Shape {
     pub dims: u8,
@@ -97,6 +97,39 @@ fn conform_refusal(
     DONE
 }
 
+// Two values, each promoted by its `up` dimensions, 0 or 1, and then at n: no order is built twice.
+fn conform_both(
+    up: u8,
+    dims: u8,
+    up_right: u8,
+    other: u8,
+    n: u8,
+    a: &[f64],
+    b: &[f64],
+    out: &mut [f64],
+    out_right: &mut [f64],
+)
+    requires { ⌜ (up ≤ 1) × («up_right» ≤ 1) × (dims + up ≤ n) × (other + «up_right» ≤ n) × (n ≤ 9) ⌝ }
+    requires { ⌜ (length (now a) ≡ 2 ^ dims) × (length (now b) ≡ 2 ^ other) × (2 ^ n ≤ length (now out)) × (2 ^ n ≤ length (now «out_right»)) ⌝ }
+    ensures { λ _. ⌜ (now (out .exit) ≡ laid (conformed up dims n (now (a .entry))) (now (out .entry))) × (now («out_right» .exit) ≡ laid (conformed «up_right» other n (now (b .entry))) (now («out_right» .entry))) ⌝ }
+{
+    // One of the two is only copied.
+    if larger(dims, other) == n {
+        conform_one(up, dims, n, a, out);
+        conform_one(up_right, other, n, b, out_right);
+        return;
+    }
+    let to = order_of(n);
+    let left = order_of(dims);
+    conform_by(up, dims, n, &to.masks, &left.places, a, out);
+    if dims == other {
+        conform_by(up_right, other, n, &to.masks, &left.places, b, out_right);
+        return;
+    }
+    let right = order_of(other);
+    conform_by(up_right, other, n, &to.masks, &right.places, b, out_right);
+}
+
 impl Shape {
     pub(crate) fn with_dims(self, dims: u8) -> Shape
         ensures { λ r. ⌜ r ≡ withDims self dims ⌝ }
@@ -134,7 +167,7 @@ impl Shape {
         if no != DONE {
             return refused(no);
         }
-        resize(dims, new_dims, a, out);
+        conform_one(0, dims, new_dims, a, out);
         done(self.with_dims(new_dims))
     }
 
@@ -150,7 +183,7 @@ impl Shape {
         if no != DONE {
             return refused(no);
         }
-        promote_by(up, dims, a, out);
+        conform_one(up, dims, n, a, out);
         done(self.with_dims(n).with_flavor(flavor))
     }
 
@@ -201,8 +234,7 @@ impl Shape {
         if no != DONE {
             return refused_pair(no);
         }
-        conform_one(up, dims, n, a, out);
-        conform_one(up_right, dims_right, n, b, out_right);
+        conform_both(up, dims, up_right, dims_right, n, a, b, out, out_right);
         let left = self.conformed(up, n);
         let right = other.conformed(up_right, n);
         Answers {

@@ -1,6 +1,7 @@
 // Unpacking a value by mask.
 use super::gather::UNTURNED;
 use super::gather::coefficient;
+use super::gather::copy_all;
 use super::gather::gather;
 use super::order::blade_count;
 use super::order::blades;
@@ -14,9 +15,10 @@ use super::shape::Shape;
 ghost use mathlib.Core.Path.{_≡_};
 ghost use mathlib.Core.Bool.{cond};
 ghost use mathlib.Core.List.{map};
-ghost use Prim.Native.Nat.{_-_, _≤_, _^_};
+ghost use Prim.Native.Nat.{_-_, _≤_, _<_, _^_};
 ghost use lib.Dec.{ltb};
 ghost use lib.ListN.{length, take};
+ghost use Rattle.masks.specs.Order.{order, masksOf, placesOf};
 ghost use Rattle.masks.specs.Outcome.{Writes, laid};
 ghost use Rattle.masks.specs.Shapes.{coef, refusedCount};
 ghost use Rattle.masks.specs.Unpack.{choose, halfMasks, halfOf, unpackAll, unpackHalf, unpackOwnHalf, unpackVector};
@@ -49,6 +51,21 @@ fn choose_masks(odd: u32, n: usize, masks: &[u16; 512], to: &mut [u16; 512]) -> 
     end
 }
 
+// All blades at d dimensions: at the value's own it is copied, and no order is built.
+fn read_all(dims: u8, d: u8, a: &[f64], out: &mut [f64])
+    requires { ⌜ (dims ≤ 9) × (d ≤ 9) × (length (now a) ≡ 2 ^ dims) × (2 ^ d ≤ length (now out)) ⌝ }
+    ensures { λ _. ⌜ now (out .exit) ≡ laid (map (coef dims (now (a .entry))) (order d)) (now (out .entry)) ⌝ }
+{
+    if d == dims {
+        copy_all(a, out);
+        return;
+    }
+    let from = order_of(dims);
+    let to = order_of(d);
+    let n = blades(d);
+    gather(&to.masks, 0, n, dims, &from.places, UNTURNED, a, out);
+}
+
 // How many even or odd blades there are.
 fn half_count(dims: u8) -> usize
     ensures { λ r. ⌜ r ≡ cond (ltb 9 dims) 0 (2 ^ (dims - 1)) ⌝ }
@@ -62,6 +79,25 @@ fn half_count(dims: u8) -> usize
     blades(dims - 1)
 }
 
+// The even (0) or odd (1) blades at d dimensions, which are not 0: the masks are of these, and the places of the value's.
+fn read_half<'o>(
+    odd: u32,
+    dims: u8,
+    d: u8,
+    masks: &'o [u16; 512],
+    places: &'o [u16; 512],
+    a: &[f64],
+    out: &mut [f64],
+)
+    requires { ⌜ (odd ≤ 1) × (dims ≤ 9) × (0 < d) × (d ≤ 9) × (length (now a) ≡ 2 ^ dims) × (2 ^ (d - 1) ≤ length (now out)) ⌝ }
+    requires { ⌜ (now masks ≡ masksOf d) × (now places ≡ placesOf dims) ⌝ }
+    ensures { λ _. ⌜ now (out .exit) ≡ laid (map (coef dims (now (a .entry))) (choose odd (order d))) (now (out .entry)) ⌝ }
+{
+    let mut chosen = zeros();
+    let count = choose_masks(odd, blades(d), masks, &mut chosen);
+    gather(&chosen, 0, count, dims, places, UNTURNED, a, out);
+}
+
 // The even (0) or odd (1) blades at d dimensions; where d is 0, the coefficient of the mask `lone`.
 fn half(odd: u32, lone: usize, dims: u8, d: u8, a: &[f64], out: &mut [f64])
     requires { ⌜ (odd ≤ 1) × (dims ≤ 9) × (d ≤ 9) × (length (now a) ≡ 2 ^ dims) × (2 ^ (d - 1) ≤ length (now out)) ⌝ }
@@ -72,10 +108,12 @@ fn half(odd: u32, lone: usize, dims: u8, d: u8, a: &[f64], out: &mut [f64])
         out[0] = coefficient(dims, &from.places, a, lone);
         return;
     }
+    if d == dims {
+        read_half(odd, dims, d, &from.masks, &from.places, a, out);
+        return;
+    }
     let to = order_of(d);
-    let mut chosen = zeros();
-    let count = choose_masks(odd, blades(d), &to.masks, &mut chosen);
-    gather(&chosen, 0, count, dims, &from.places, UNTURNED, a, out);
+    read_half(odd, dims, d, &to.masks, &from.places, a, out);
 }
 
 // The even or odd blades of a value, with refusals.
@@ -106,9 +144,7 @@ impl Shape {
         if no != DONE {
             return none(no);
         }
-        let from = order_of(dims);
-        let to = order_of(d);
-        gather(&to.masks, 0, needed, dims, &from.places, UNTURNED, a, out);
+        read_all(dims, d, a, out);
         Count {
             number: DONE,
             count: needed,

@@ -1,6 +1,6 @@
 -- What `multiplied` gives where it is not refused: the product of the conformed values; where nothing has to be conformed, that of the values as they stand. Assumes nothing.
 use mathlib.Core.Path.{_≡_, refl, sym, ap, ap₂, _∙_, subst}
-use mathlib.Core.Bool.{true, _&&_}
+use mathlib.Core.Bool.{Bool, true, _&&_}
 use mathlib.Core.List.{List}
 use Prim.Native.Nat.{ℕ, _+_, _^_, _≤_, _<_}
 use native.Mathlib.Nat.{add-zero, le-refl, max-eq-left}
@@ -24,7 +24,7 @@ use Rattle.masks.proofs.Computed.{both}
 use Rattle.product.proofs.RefusalLaws.{gives-refusal, up, upRight, meeting, tests, pair, conform-number, multiplied-refused, refused-anyway, refused-for-room, roomy-enough, testsOf, tests-alike}
 use Rattle.product.specs.declared.outcome.Product.{Product}
 use Rattle.product.specs.declared.mode.Mode.{Mode}
-use Rattle.product.specs.Products.{Counted, GivesProduct, productOf, refusedProduct, multipliedOf, multiplied, sharesFlavor}
+use Rattle.product.specs.Products.{Counted, GivesProduct, productOf, refusedProduct, multipliedOf, multiplied}
 use Rattle.product.specs.Accuracy.{Fitting}
 
 -- ---- conforming first
@@ -42,6 +42,10 @@ module _ (s t : Shape) (a b : List Float) where
       ∙ ap (λ (p : Pair). multipliedOf mode (p .leftShape) (p .leftCoefs) (p .rightCoefs)) c
 
 -- ---- values that agree
+
+-- No flavor is promoted.
+abbrev sharesFlavor : Flavor → Flavor → Bool
+sharesFlavor f g = eqb (promotes f g + promotes g f) 0
 
 shape-kept : (s : Shape) → conformedShape 0 s (s .dims) ≡ s
 unfolding conformedShape

@@ -1,14 +1,11 @@
 -- What the five products give. Assumes nothing.
 use mathlib.Core.Path.{_≡_}
-use mathlib.Core.Bool.{Bool}
 use mathlib.Core.List.{List}
-use Prim.Native.Nat.{ℕ, _+_}
-use lib.Dec.{eqb}
+use Prim.Native.Nat.{ℕ}
 use lib.Ieee.{Float, binary64}
-use Rattle.masks.specs.declared.flavor.Flavor.{Flavor}
 use Rattle.masks.specs.declared.shape.Shape.{Shape}
 use Rattle.masks.specs.Outcome.{Outcome, unless, value, refusedValue, laid}
-use Rattle.masks.specs.Shapes.{promotes, conform}
+use Rattle.masks.specs.Shapes.{conform}
 use Rattle.product.specs.declared.mode.Mode.{Mode}
 use Rattle.product.specs.declared.mode.Mode.the-variants.{All, Left, Right, Inner, Outer}
 use Rattle.product.specs.declared.outcome.Product.{Product}
@@ -52,10 +49,6 @@ innerProduct = multiplied Inner
 
 abbrev pub outerProduct : Shape → Shape → List Float → List Float → ℕ → Counted
 outerProduct = multiplied Outer
-
--- Two flavors conform with no promotion.
-abbrev pub sharesFlavor : Flavor → Flavor → Bool
-sharesFlavor f g = eqb (promotes f g + promotes g f) 0
 
 -- The answer has the product's number, shape and pairs; the coefficients are in the output.
 abbrev pub productOf : Counted → Product

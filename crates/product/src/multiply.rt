@@ -19,17 +19,18 @@ use masks::shape::Shape;
 ghost use mathlib.Core.Path.{_≡_};
 ghost use mathlib.Core.Bool.{_&&_};
 ghost use mathlib.Core.List.{[], _∷_};
-ghost use Prim.Native.Nat.{_^_, _≤_};
+ghost use Prim.Native.Nat.{_+_, _^_, _≤_};
 ghost use lib.Dec.{eqb};
 ghost use lib.Ieee.{binary64};
 ghost use lib.ListN.{length};
 ghost use Rattle.masks.specs.Outcome.{laid, refusal, tooMany, wrongCount, noRoom};
+ghost use Rattle.masks.specs.Shapes.{promotes};
 ghost use Rattle.product.specs.Pairwise.{product};
-ghost use Rattle.product.specs.Products.{GivesProduct, multiplied, multipliedOf, sharesFlavor, generalProduct, leftContraction, rightContraction, innerProduct, outerProduct};
+ghost use Rattle.product.specs.Products.{GivesProduct, multiplied, multipliedOf, generalProduct, leftContraction, rightContraction, innerProduct, outerProduct};
 
 // Whether two flavors conform with no promotion.
 fn flavors_agree(f: Flavor, g: Flavor) -> bool
-    ensures { λ r. ⌜ r ≡ sharesFlavor f g ⌝ }
+    ensures { λ r. ⌜ r ≡ eqb (promotes f g + promotes g f) 0 ⌝ }
 {
     match f {
         Flavor::Vanilla => match g {
@@ -48,7 +49,7 @@ fn flavors_agree(f: Flavor, g: Flavor) -> bool
 
 // Whether two values conform as they stand.
 fn agree(left: Shape, right: Shape) -> bool
-    ensures { λ r. ⌜ r ≡ (eqb (left .dims) (right .dims) && sharesFlavor (left .flavor) (right .flavor)) ⌝ }
+    ensures { λ r. ⌜ r ≡ (eqb (left .dims) (right .dims) && eqb (promotes (left .flavor) (right .flavor) + promotes (right .flavor) (left .flavor)) 0) ⌝ }
 {
     let own = left.flavor;
     let theirs = right.flavor;

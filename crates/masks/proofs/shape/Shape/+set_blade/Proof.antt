@@ -7,11 +7,12 @@ use borrow.Fn.Kinds.{In}
 use borrow.Fn.PlainCycle.{Measures, is, falls, and}
 use lib.ListN.{length}
 use lib.Seq.{length-take-le}
+use Rattle.masks.specs.Order.{placesOf}
 use Rattle.masks.specs.Outcome.{laid, Gives}
 use Rattle.masks.specs.Shapes.{withDims, setBlade}
 use Rattle.masks.proofs.OrderLaws.{blades-le}
 use Rattle.masks.proofs.RefusalLaws.{gives-refused, gives-done}
-use Rattle.masks.proofs.ShapeLaws.{resized-held}
+use Rattle.masks.proofs.ShapeLaws.{holds-masks, holds-places, resized-held}
 use Rattle.masks.proofs.BladeLaws.{below-nine, dims-here, blade-here, Placed, placed, blade-grown}
 use Rattle.masks.proofs.shape.Shape.set_blade.Reads as set-blade
 use Rattle.masks.proofs.shape.Shape.set_blade.Kinds as set-blade-kinds
@@ -20,6 +21,7 @@ use Rattle.masks.proofs.blade.put_blade.Reads as put-blade-reads
 use Rattle.masks.proofs.blade.set_blade_refusal.Reads as set-blade-refusal-reads
 use Rattle.masks.proofs.gather.resize.Reads as resize-reads
 use Rattle.masks.proofs.order.blades.Reads as blades-reads
+use Rattle.masks.proofs.order.order_of.Reads as order-of-reads
 use Rattle.masks.proofs.outcome.done.Reads as done-reads
 use Rattle.masks.proofs.outcome.refused.Reads as refused-reads
 use Rattle.masks.proofs.shape.Shape.with_dims.Reads as with-dims-reads
@@ -44,6 +46,8 @@ told t = (
   set-blade-refusal-reads.Learnt,
   refused-reads.Asked,
   refused-reads.Learnt,
+  order-of-reads.Asked,
+  order-of-reads.Learnt,
   blades-reads.Asked,
   blades-reads.Learnt,
   put-blade-reads.Asked,
@@ -77,18 +81,27 @@ module _ (t : ℕ) where
     ok : Placed (s .args .self .dims) (s .args .mask) (length (s .args .a .now)) (length (s .args .out .now))
     ok = placed (s .args .self .dims) (s .args .mask) (length (s .args .a .now)) (length (s .args .out .now)) (sym (c .before .set-blade-refusal .ensures) ∙ c .if1 .left)
 
-  blades-requires : set-blade-lts.Need-blades-requires (told t) (set-blade-at t) set-blade.Post
-  blades-requires c κs = ok c .small
+  order-of-requires : set-blade-lts.Need-order-of-requires (told t) (set-blade-at t) set-blade.Post
+  order-of-requires c κs = tt
 
-  inside : (c : set-blade-lts.Then2 (told t) (set-blade-at t) set-blade.Post) → s (c .before .before) .args .mask < 2 ^ (s (c .before .before) .args .self .dims)
+  blades-requires : set-blade-lts.Need-blades-requires (told t) (set-blade-at t) set-blade.Post
+  blades-requires c κs = ok (c .before) .small
+
+  -- the places that are lent
+  places : (c : set-blade-lts.After-order-of (told t) (set-blade-at t) set-blade.Post) → c .order-of .result .places ≡ placesOf (s (c .before) .args .self .dims)
+  places c = holds-places _ (s (c .before) .args .self .dims) (ok (c .before) .small) (c .order-of .ensures)
+
+  inside : (c : set-blade-lts.Then2 (told t) (set-blade-at t) set-blade.Post) → s (c .before .before .before) .args .mask < 2 ^ (s (c .before .before .before) .args .self .dims)
   inside c = omega (arith, c .if2 .taken, c .before .blades .ensures)
 
   put-blade-requires : set-blade-lts.Need-put-blade-requires (told t) (set-blade-at t) set-blade.Post
   put-blade-requires c κs =
-      let i = c .before .before .before in
+      let j = c .before .before .before in
+      let o = j .before .before in
+      let i = o .before in
       let p = ok i in
-      let h = inside (c .before) in
-      (p .small, h, p .counted, omega (arith, p .roomy, ap (λ n. 2 ^ n) (dims-here (9 - s i .args .self .dims) (s i .args .self .dims) (s i .args .mask) h)))
+      let h = inside j in
+      (p .small, places o, h, p .counted, omega (arith, p .roomy, ap (λ n. 2 ^ n) (dims-here (9 - s i .args .self .dims) (s i .args .self .dims) (s i .args .mask) h)))
 
   done-requires : set-blade-lts.Need-done-requires (told t) (set-blade-at t) set-blade.Post
   done-requires c κs = tt
@@ -99,8 +112,8 @@ module _ (t : ℕ) where
   returns-2 : set-blade-lts.Need-returns-2 (told t) (set-blade-at t) set-blade.Post
   unfolding setBlade
   returns-2 c =
-      let j = c .before .before .before .before .before in
-      let i = j .before .before in
+      let j = c .before .before .before .before .before .before .before in
+      let i = j .before .before .before in
       let a = s i .args in
       let k = 9 - a .self .dims in
       gives-done _ _ _ _ _ _ (i .before .set-blade-refusal .ensures) (i .if1 .left)
@@ -111,7 +124,7 @@ module _ (t : ℕ) where
   -- the mask is outside
   module _ (c : set-blade-lts.Else2 (told t) (set-blade-at t) set-blade.Post) where
     abbrev i : set-blade-lts.Else1 (told t) (set-blade-at t) set-blade.Post
-    i = c .before .before
+    i = c .before .before .before
 
     outside : 2 ^ (s i .args .self .dims) ≤ s i .args .mask
     outside = omega (arith, c .if2 .left, c .before .blades .ensures)
@@ -122,30 +135,45 @@ module _ (t : ℕ) where
     few : 2 ^ (s i .args .self .dims + 1) ≤ 512
     few = blades-le (s i .args .self .dims + 1) (omega (arith, more))
 
+  add-order-of : set-blade-lts.Need-add-order-of (told t) (set-blade-at t) set-blade.Post
+  add-order-of c = omega (arith, more c)
+
+  order-of-requires-2 : set-blade-lts.Need-order-of-requires-2 (told t) (set-blade-at t) set-blade.Post
+  order-of-requires-2 c κs = tt
+
   add-resize : set-blade-lts.Need-add-resize (told t) (set-blade-at t) set-blade.Post
-  add-resize c = omega (arith, more c)
+  add-resize c = omega (arith, more (c .before))
 
   slice-aggregate-resize : set-blade-lts.Need-slice-aggregate-resize (told t) (set-blade-at t) set-blade.Post
   slice-aggregate-resize c = search needs
 
   resize-requires : set-blade-lts.Need-resize-requires (told t) (set-blade-at t) set-blade.Post
-  resize-requires c κs = let j = c .before in (ok (i j) .small, omega (arith, more j), ok (i j) .counted, few j)
+  resize-requires c κs =
+      let n = c .before .before .before .before .before in
+      let j = n .before in
+      let p = ok (i j) in
+      let m : s (i j) .args .self .dims + 1 ≤ 9 = omega (arith, more j) in
+      ((p .small, m, p .counted, few j), (holds-masks _ (s (i j) .args .self .dims + 1) m (n .order-of2 .ensures), places (j .before .before)))
+
+  -- where the value is grown
+  abbrev grown : set-blade-lts.After-held2 (told t) (set-blade-at t) set-blade.Post → set-blade-lts.Else2 (told t) (set-blade-at t) set-blade.Post
+  grown c = c .before .before .before .before .before .before .before .before
 
   add-blades : set-blade-lts.Need-add-blades (told t) (set-blade-at t) set-blade.Post
-  add-blades c = omega (arith, more (c .before .before .before))
+  add-blades c = omega (arith, more (grown c))
 
   blades-requires-2 : set-blade-lts.Need-blades-requires-2 (told t) (set-blade-at t) set-blade.Post
-  blades-requires-2 c κs = omega (arith, more (c .before .before .before))
+  blades-requires-2 c κs = omega (arith, more (grown c))
 
   add-with-dims : set-blade-lts.Need-add-with-dims (told t) (set-blade-at t) set-blade.Post
-  add-with-dims c = omega (arith, more (c .before .before .before .before))
+  add-with-dims c = omega (arith, more (grown (c .before)))
 
   with-dims-requires : set-blade-lts.Need-with-dims-requires (told t) (set-blade-at t) set-blade.Post
   with-dims-requires c κs = tt
 
   -- as many numbers as there are blades are lent
-  lent : (c : set-blade-lts.After-blades2 (told t) (set-blade-at t) set-blade.Post) → c .blades2 .result ≤ length (c .before .before .resize .last .1 .1 .1 .0)
-  lent c = omega (arith, c .blades2 .ensures, few (c .before .before .before .before), c .before .before .resize .kept .1 .1 .1 .0)
+  lent : (c : set-blade-lts.After-blades2 (told t) (set-blade-at t) set-blade.Post) → c .blades2 .result ≤ length (c .before .before .resize .last .1 .1 .1 .1 .1 .0)
+  lent c = omega (arith, c .blades2 .ensures, few (grown (c .before)), c .before .before .resize .kept .1 .1 .1 .1 .1 .0)
 
   array-share-prefix-held : set-blade-lts.Need-array-share-prefix-held (told t) (set-blade-at t) set-blade.Post
   array-share-prefix-held c = lent (c .before)
@@ -155,7 +183,7 @@ module _ (t : ℕ) where
 
   set-blade-requires : set-blade-lts.Need-set-blade-requires (told t) (set-blade-at t) set-blade.Post
   set-blade-requires c κs =
-      let j = c .before .before .before .before .before .before .before in
+      let j = grown (c .before .before .before .before) in
       let d : c .before .before .with-dims .result .dims ≡ s (i j) .args .self .dims + 1 = ap (λ x. x .dims) (c .before .before .with-dims .ensures) in
       let h : 9 - c .before .before .with-dims .result .dims < t = omega (arith, d, more j, s (i j) .pre .0) in
       (h, tt)
@@ -167,7 +195,7 @@ module _ (t : ℕ) where
   returns-3 c =
       let w = c .before .before .before .before .before in
       let b = w .before in
-      let j = b .before .before .before .before in
+      let j = grown (b .before) in
       let a = s (i j) .args in
       let held = resized-held (a .self .dims) (a .self .dims + 1) _ (a .a .now) _ _ (b .blades2 .ensures) (b .before .before .resize .ensures) in
       subst (λ o. Gives o (c .before .before .set-blade .result) (a .out .now) (c .before .before .set-blade .last .1 .1 .1 .1 .0))
@@ -184,11 +212,14 @@ pub +set-blade-spec : {M : Type 1} → statement M
     (set-blade-refusal-requires t)
     (refused-requires t)
     (returns t)
+    (order-of-requires t)
     (blades-requires t)
     (put-blade-requires t)
     (done-requires t)
     (same-length t)
     (returns-2 t)
+    (add-order-of t)
+    (order-of-requires-2 t)
     (add-resize t)
     (slice-aggregate-resize t)
     (resize-requires t)

@@ -94,19 +94,12 @@ ok c =
 agreed : (c : tie.Else1) → l (c .before) .larger .result ≡ dims (c .before)
 agreed c = same (c .before) (ok c .small) (ok c .smallRight)
 
-conform-one-requires : tie.Need-conform-one-requires
-conform-one-requires c κs =
-    let i = c .before in
+conform-both-requires : tie.Need-conform-both-requires
+conform-both-requires c κs =
+    let i = c .before .before in
     let r = i .before in
     let t = ok i in
-    (few (p r), omega (arith, t .result, l r .larger .ensures, grown r (t .small)), t .result, t .counted, t .roomy)
-
-conform-one-requires-2 : tie.Need-conform-one-requires-2
-conform-one-requires-2 c κs =
-    let i = c .before .before .before .before .before in
-    let r = i .before in
-    let t = ok i in
-    (few-right (p r), omega (arith, t .result, l r .larger .ensures, grown-right r (t .smallRight)), t .result, t .countedRight, t .roomyRight)
+    ((few (p r), few-right (p r), omega (arith, l r .larger .ensures, grown r (t .small)), omega (arith, l r .larger .ensures, grown-right r (t .smallRight)), t .result), (t .counted, t .countedRight, t .roomy, t .roomyRight))
 
 conformed-requires : tie.Need-conformed-requires
 conformed-requires c κs = search needs
@@ -123,7 +116,8 @@ same-length-2 c = search needs
 returns-2 : tie.Need-returns-2
 unfolding conform
 returns-2 c =
-    let i = c .before .before .before .before .before .before .before .before .before .before in
+    let b = c .before .before .before .before .before .before in
+    let i = b .before .before .before in
     let r = i .before in
     let e = p r .before .promotion .ensures in
     let f = p r .promotion2 .ensures in
@@ -132,9 +126,9 @@ returns-2 c =
     (ap₂ (λ x y. record { number = 0; left = x; right = y })
     (c .before .conformed .ensures ∙ ap₂ (λ u n. conformedShape u (a .self) n) e (agreed i))
     (c .conformed2 .ensures ∙ ap₂ (λ u n. conformedShape u (a .other) n) f (agreed i)))
-    (c .before .before .before .before .before .before .before .before .conform-one .ensures
+    (b .conform-both .ensures .0
     ∙ ap₂ (λ u n. laid (conformed u (own r) n (a .a .now)) (a .out .now)) e (agreed i))
-    (c .before .before .before .before .conform-one2 .ensures
+    (b .conform-both .ensures .1
     ∙ ap₂ (λ u n. laid (conformed u (theirs r) n (a .b .now)) (a .out-right .now)) f (agreed i))
 
 pub conform-spec : {M : Type 1} → statement M
@@ -149,8 +143,7 @@ conform-spec =
     conform-refusal-requires
     refused-pair-requires
     returns
-    conform-one-requires
-    conform-one-requires-2
+    conform-both-requires
     conformed-requires
     conformed-requires-2
     same-length

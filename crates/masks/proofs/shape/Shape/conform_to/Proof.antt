@@ -81,7 +81,7 @@ conform-one-requires : tie.Need-conform-one-requires
 conform-one-requires c κs =
     let r = c .before .before in
     let t = ok (c .before) in
-    (few (p r), omega (arith, t .result, l r .larger .ensures, grown r (t .small)), t .result, t .counted, t .roomy)
+    ((few (p r), omega (arith, t .result, l r .larger .ensures, grown r (t .small)), t .result, t .counted, t .roomy), λ e. omega (arith, e, l r .larger .ensures, grown r (t .small)))
 
 conformed-requires : tie.Need-conformed-requires
 conformed-requires c κs = search needs

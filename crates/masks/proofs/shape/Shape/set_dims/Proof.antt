@@ -1,12 +1,13 @@
 -- `masks::shape::Shape::set_dims` meets its contract: the code's number is the definition's, and what is not refused is resized. Assumes nothing.
-use mathlib.Core.Path.{_≡_, sym, _∙_}
+use mathlib.Core.Path.{_≡_, refl, sym, ap, _∙_}
 use Prim.Native.Nat.{_^_}
+use native.Mathlib.Omega.{arith}
 use borrow.Author.Needs.{needs}
 use lib.ListN.{length}
-use Rattle.masks.specs.Outcome.{refusal}
+use Rattle.masks.specs.Outcome.{refusal, laid}
 use Rattle.masks.specs.Shapes.{setDims}
 use Rattle.masks.proofs.RefusalLaws.{Taken, taken, gives-refused, gives-done}
-use Rattle.masks.proofs.ChangeLaws.{checks, checked}
+use Rattle.masks.proofs.ChangeLaws.{checks, checked, conformed-none}
 use Rattle.masks.proofs.shape.Shape.set_dims.Statement.{statement}
 use Rattle.masks.proofs.shape.Shape.set_dims.Tie as tie
 
@@ -31,12 +32,12 @@ returns : tie.Need-returns
 unfolding setDims
 returns c = gives-refused _ _ _ _ _ (number (c .before .before)) (c .before .if1 .taken) (c .refused .ensures)
 
-resize-requires : tie.Need-resize-requires
-resize-requires c κs =
+conform-one-requires : tie.Need-conform-one-requires
+conform-one-requires c κs =
     let r = c .before .before in
     let a = s r .args in
     let t : Taken (a .self .dims) (a .new-dims) (length (a .a .now)) (length (a .out .now)) (2 ^ (a .new-dims)) = taken (a .self .dims) (a .new-dims) (length (a .a .now)) (length (a .out .now)) _ (sym (number r) ∙ c .before .if1 .left) in
-    (t .small, t .result, t .counted, t .roomy)
+    ((omega arith, omega (arith, t .small), t .result, t .counted, t .roomy), λ e. refl)
 
 with-dims-requires : tie.Need-with-dims-requires
 with-dims-requires c κs = search needs
@@ -51,7 +52,9 @@ returns-2 : tie.Need-returns-2
 unfolding setDims
 returns-2 c =
     let i = c .before .before .before .before .before .before in
-    gives-done _ _ _ _ _ _ (number (i .before)) (i .if1 .left) (c .done .ensures ∙ rw (c .before .with-dims .ensures)) (c .before .before .before .before .resize .ensures)
+    let a = s (i .before) .args in
+    gives-done _ _ _ _ _ _ (number (i .before)) (i .if1 .left) (c .done .ensures ∙ rw (c .before .with-dims .ensures)) (c .before .before .before .before .conform-one .ensures
+    ∙ ap (λ xs. laid xs (a .out .now)) (sym (conformed-none 0 (a .self .dims) (a .new-dims) (a .a .now) refl)))
 
 pub set-dims-spec : {M : Type 1} → statement M
 set-dims-spec =
@@ -61,7 +64,7 @@ set-dims-spec =
     refusal-of-requires
     refused-requires
     returns
-    resize-requires
+    conform-one-requires
     with-dims-requires
     done-requires
     same-length

@@ -1,13 +1,13 @@
 -- `masks::shape::Shape::set_flavor` meets its contract: the code's number is the definition's, and what is not refused is promoted. Assumes nothing.
-use mathlib.Core.Path.{_≡_, sym, ap, _∙_}
+use mathlib.Core.Path.{_≡_, refl, sym, ap, ap₂, _∙_}
 use Prim.Native.Nat.{ℕ, _+_, _^_, _≤_}
 use native.Mathlib.Omega.{arith}
 use borrow.Author.Needs.{needs}
 use lib.ListN.{length}
 use Rattle.masks.specs.Outcome.{refusal, laid}
-use Rattle.masks.specs.Shapes.{promotes, promoted, setFlavor}
+use Rattle.masks.specs.Shapes.{promotes, conformed, setFlavor}
 use Rattle.masks.proofs.RefusalLaws.{Taken, taken, gives-refused, gives-done}
-use Rattle.masks.proofs.ChangeLaws.{promotes-le, promoted-small, checks, checked, checks-same}
+use Rattle.masks.proofs.ChangeLaws.{conformed-same, promotes-le, promoted-small, checks, checked, checks-same}
 use Rattle.masks.proofs.shape.Shape.set_flavor.Statement.{statement}
 use Rattle.masks.proofs.shape.Shape.set_flavor.Tie as tie
 
@@ -66,10 +66,13 @@ ok c =
     let r = c .before in
     taken (own r) (dims r) (length (s r .args .a .now)) (length (s r .args .out .now)) _ (sym (numbered r) ∙ c .if1 .left)
 
-promote-by-requires : tie.Need-promote-by-requires
-promote-by-requires c κs =
+conform-one-requires : tie.Need-conform-one-requires
+conform-one-requires c κs =
+    let r = c .before .before in
     let t = ok (c .before) in
-    rw (p (c .before .before) .promotion .ensures) (promotes-le _ _, t .result, t .counted, t .roomy)
+    let e = p r .promotion .ensures in
+    let n = same r (t .small) in
+    ((few (p r), omega (arith, e, t .result), omega (arith, n, t .result), t .counted, omega (arith, ap (λ k. 2 ^ k) n, t .roomy)), λ q. omega (arith, q, e, n))
 
 with-dims-requires : tie.Need-with-dims-requires
 with-dims-requires c κs = search needs
@@ -89,9 +92,13 @@ returns-2 c =
     let i = c .before .before .before .before .before .before .before in
     let r = i .before in
     let a = s r .args in
+    let t = ok i in
+    let up = promotes (a .self .flavor) (a .flavor) in
     gives-done _ _ _ _ _ _ (numbered r) (i .if1 .left)
-    (c .done .ensures ∙ rw (c .before .with-flavor .ensures, c .before .before .with-dims .ensures, same r (ok i .small)))
-    (c .before .before .before .before .before .promote-by .ensures ∙ ap (λ u. laid (promoted u (a .self .dims) (a .a .now)) (a .out .now)) (p r .promotion .ensures))
+    (c .done .ensures ∙ rw (c .before .with-flavor .ensures, c .before .before .with-dims .ensures, same r (t .small)))
+    (c .before .before .before .before .before .conform-one .ensures
+    ∙ ap₂ (λ u n. laid (conformed u (a .self .dims) n (a .a .now)) (a .out .now)) (p r .promotion .ensures) (same r (t .small))
+    ∙ ap (λ xs. laid xs (a .out .now)) (conformed-same up (own r) (dims r) (a .a .now) (promotes-le _ _) refl (t .result) (t .counted)))
 
 pub set-flavor-spec : {M : Type 1} → statement M
 set-flavor-spec =
@@ -103,7 +110,7 @@ set-flavor-spec =
     refusal-of-requires
     refused-requires
     returns
-    promote-by-requires
+    conform-one-requires
     with-dims-requires
     with-flavor-requires
     done-requires

@@ -1,18 +1,16 @@
--- `masks::shape::Shape::unpack_all` meets its contract: the coefficients of the order's masks are gathered. Assumes nothing.
+-- `masks::shape::Shape::unpack_all` meets its contract: what was worked out as refused is what the contract refuses. Assumes nothing.
 use mathlib.Core.Path.{_≡_, sym, _∙_}
 use Prim.Native.Nat.{_^_, _≤_}
-use native.Mathlib.Omega.{arith}
 use borrow.Author.Needs.{needs}
-use lib.Dec.{lit≤}
 use lib.ListN.{length}
 use Rattle.masks.specs.Order.{order}
 use Rattle.masks.specs.Shapes.{coef}
 use Rattle.masks.specs.Unpack.{unpackAll, unpackRefusal}
-use Rattle.masks.proofs.OrderLaws.{length-order, blades-le}
+use Rattle.masks.proofs.OrderLaws.{length-order}
 use Rattle.masks.proofs.RefusalLaws.{Taken, taken, writes-refused, writes-done}
-use Rattle.masks.proofs.ShapeLaws.{count-small, holds-masks, holds-places}
+use Rattle.masks.proofs.ShapeLaws.{count-small}
 use Rattle.masks.proofs.ChangeLaws.{checked}
-use Rattle.masks.proofs.UnpackLaws.{all-read, counts}
+use Rattle.masks.proofs.UnpackLaws.{counts}
 use Rattle.masks.proofs.shape.Shape.unpack_all.Statement.{statement}
 use Rattle.masks.proofs.shape.Shape.unpack_all.Tie as tie
 
@@ -45,20 +43,8 @@ returns c = writes-refused _ _ _ _ _ (refused (c .before .before)) (c .before .i
 ok : (c : tie.Else1) → Taken (s (c .before) .args .self .dims) (s (c .before) .args .d) (length (s (c .before) .args .a .now)) (length (s (c .before) .args .out .now)) (2 ^ s (c .before) .args .d)
 ok c = taken _ _ _ _ _ (sym (refused (c .before)) ∙ c .if1 .left)
 
-order-of-requires : tie.Need-order-of-requires
-order-of-requires c κs = search needs
-
-order-of-requires-2 : tie.Need-order-of-requires-2
-order-of-requires-2 c κs = search needs
-
-gather-requires : tie.Need-gather-requires
-gather-requires c κs =
-    let f = c .before .before .before .before .before .before in
-    let e = f .before in
-    let a = s (e .before) .args in
-    let t = ok e in
-    let n = needed (e .before) (t .result) in
-    ((t .small, holds-places _ (a .self .dims) (t .small) (f .order-of .ensures), t .counted), (omega (arith, n, blades-le (a .d) (t .result)), omega (arith, n, t .roomy)))
+read-all-requires : tie.Need-read-all-requires
+read-all-requires c κs = let t = ok (c .before) in (t .small, t .result, t .counted, t .roomy)
 
 same-length : tie.Need-same-length
 same-length c = search needs
@@ -66,14 +52,10 @@ same-length c = search needs
 returns-2 : tie.Need-returns-2
 unfolding unpackAll
 returns-2 c =
-    let o = c .before .before .before .before .before .before .before .before in
-    let e = o .before .before in
+    let e = c .before .before .before .before in
     let a = s (e .before) .args in
-    let t = ok e in
-    let n = needed (e .before) (t .result) in
-    writes-done _ _ _ _ _ _ (refused (e .before)) (e .if1 .left) (counts _ (coef (a .self .dims) (a .a .now)) (order (a .d)) (n ∙ sym (length-order (a .d))))
-    (all-read 1024 (a .self .dims) (a .a .now) (lit≤ tt) (a .d) (o .order-of2 .result .masks) (t .result) (holds-masks _ (a .d) (t .result) (o .order-of2 .ensures)) (a .out .now) _ _ n
-    (c .before .before .gather .ensures))
+    let n = needed (e .before) (ok e .result) in
+    writes-done _ _ _ _ _ _ (refused (e .before)) (e .if1 .left) (counts _ (coef (a .self .dims) (a .a .now)) (order (a .d)) (n ∙ sym (length-order (a .d)))) (c .before .before .read-all .ensures)
 
 pub unpack-all-spec : {M : Type 1} → statement M
 unpack-all-spec =
@@ -83,8 +65,6 @@ unpack-all-spec =
     refusal-of-requires
     none-requires
     returns
-    order-of-requires
-    order-of-requires-2
-    gather-requires
+    read-all-requires
     same-length
     returns-2)
