@@ -56,7 +56,7 @@ pub(crate) fn squares_of(flavor: Flavor) -> Squares
     s
 }
 
-// The bits that an odd number of b's bits stand below: each x ^ x << k doubles the run of bits that a bit sums.
+// The bits that an odd number of b's bits stand below: each x ^ x << k doubles the run of bits that a bit sums, to eight.
 fn below_bits(b: u32) -> u32
     requires { ⌜ b < 512 ⌝ }
     ensures { λ r. ⌜ r ≡ below b ⌝ }
@@ -65,8 +65,7 @@ fn below_bits(b: u32) -> u32
     let p2 = p1 ^ (p1 << 1);
     let p4 = p2 ^ (p2 << 2);
     let p8 = p4 ^ (p4 << 4);
-    let p16 = p8 ^ (p8 << 8);
-    p16 & 511
+    p8 & 511
 }
 
 pub(crate) fn blade_of(s: Squares, mask: u32) -> Blade

@@ -14,7 +14,7 @@ fold : ℕ → ℕ → ℕ
 fold x p = bitXor x (x * p % 4294967296)
 
 code : ℕ → ℕ
-code b = bitAnd (fold (fold (fold (fold (b * 2 % 4294967296) 2) 4) 16) 256) 511
+code b = bitAnd (fold (fold (fold (b * 2 % 4294967296) 2) 4) 16) 511
 
 same : ℕ → Bool
 same b = eqb (code b) (below b)
