@@ -2,7 +2,7 @@
 use mathlib.Core.Path.{_≡_, refl, sym, ap, ap₂, _∙_, subst}
 use mathlib.Core.Bool.{Bool, true, _&&_}
 use mathlib.Core.List.{List}
-use Prim.Native.Nat.{ℕ, _+_, _^_, _≤_, _<_}
+use Prim.Native.Nat.{ℕ, zero, suc, _+_, _^_, _≤_, _<_}
 use native.Mathlib.Nat.{add-zero, le-refl, max-eq-left}
 use native.Mathlib.Omega.{arith}
 use lib.Dec.{T, eqb, eqb→eq}
@@ -14,7 +14,7 @@ use Rattle.masks.specs.declared.flavor.Flavor.{Flavor}
 use Rattle.masks.specs.declared.flavor.Flavor.the-variants.{Vanilla, Projective, Cl}
 use Rattle.masks.specs.declared.shape.Shape.{Shape}
 use Rattle.masks.specs.declared.outcome.Answers.{Answers}
-use Rattle.masks.specs.Outcome.{Pair, GivesBoth, laid, refusal, refusedPair}
+use Rattle.masks.specs.Outcome.{Pair, GivesBoth, laid, refusal, refusedPair, unless}
 use Rattle.masks.specs.Shapes.{promotes, resized, conformed, conformedShape, conform}
 use Rattle.masks.proofs.ListLaws.{take-laid}
 use Rattle.masks.proofs.RefusalLaws.{unless-done}
@@ -24,6 +24,7 @@ use Rattle.masks.proofs.Computed.{both}
 use Rattle.product.proofs.RefusalLaws.{gives-refusal, up, upRight, meeting, tests, pair, conform-number, multiplied-refused, refused-anyway, refused-for-room, roomy-enough, testsOf, tests-alike}
 use Rattle.product.specs.declared.outcome.Product.{Product}
 use Rattle.product.specs.declared.mode.Mode.{Mode}
+use Rattle.product.specs.Pairwise.{pairsOf}
 use Rattle.product.specs.Products.{Counted, GivesProduct, productOf, refusedProduct, multipliedOf, multiplied}
 use Rattle.product.specs.Accuracy.{Fitting}
 
@@ -40,6 +41,21 @@ module _ (s t : Shape) (a b : List Float) where
       let c = conform-done room z in
       unless-done refusedProduct (conform s t a b room room .number) 0 _ (ap (λ (p : Pair). p .number) (sym c)) refl
       ∙ ap (λ (p : Pair). multipliedOf mode (p .leftShape) (p .leftCoefs) (p .rightCoefs)) c
+
+-- ---- the count that is returned
+
+of-shape : (mode : Mode) (k : ℕ) (s : Shape) (a b : List Float) → unless refusedProduct k (multipliedOf mode s a b) .outcome .number ≡ 0
+    → unless refusedProduct k (multipliedOf mode s a b) .pairs
+    ≡ pairsOf mode (unless refusedProduct k (multipliedOf mode s a b) .outcome .shape .flavor) (unless refusedProduct k (multipliedOf mode s a b) .outcome .shape .dims)
+unfolding unless
+of-shape mode zero s a b z = refl
+of-shape mode (suc k) s a b z = absurd (omega arith)
+
+-- A product that is done returns the number of pairs of its own shape, for which CountingLaws has the closed forms.
+pub returned-pairs : (mode : Mode) (s t : Shape) (a b : List Float) (room : ℕ) → multiplied mode s t a b room .outcome .number ≡ 0
+    → multiplied mode s t a b room .pairs ≡ pairsOf mode (multiplied mode s t a b room .outcome .shape .flavor) (multiplied mode s t a b room .outcome .shape .dims)
+unfolding multiplied
+returned-pairs mode s t a b room z = let c = conform s t a b room room in of-shape mode (c .number) (c .leftShape) (c .leftCoefs) (c .rightCoefs) z
 
 -- ---- values that agree
 
