@@ -189,6 +189,15 @@ fn null_flavor(outs: &mut [u64; 16]) -> usize {
     4
 }
 
+// Of two flavors, given as those of two shapes.
+fn promotion(ins: &[u64; 16], outs: &mut [u64; 16]) -> usize {
+    let f = flavor_in(ins);
+    let s = second_shape(ins);
+    let g = s.flavor;
+    outs[0] = masks::shape::promotion(f, g) as u64;
+    1
+}
+
 // The bytes of a text stand one to a word.
 fn try_from_str(ins: &[u64; 16], given: usize, outs: &mut [u64; 16]) -> usize {
     let mut t = [0u8; 16];
@@ -415,6 +424,7 @@ pub fn make(
         7..=13 | 20..=25 => make_shaped(op, ins, a, b, out, right, outs),
         26 => null_flavor(outs),
         27..=31 => make_product(op, ins, a, b, out, outs),
+        32 => promotion(ins, outs),
         _ => 0,
     }
 }

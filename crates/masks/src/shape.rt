@@ -29,8 +29,8 @@ pub struct Shape {
     pub flavor: Flavor,
 }
 
-// The dimensions that a change from one flavor to another adds.
-pub(crate) fn promotion(f: Flavor, g: Flavor) -> u8
+// The dimensions that a change from one flavor to another adds: 1 from Vanilla to Projective, else 0.
+pub fn promotion(f: Flavor, g: Flavor) -> u8
     ensures { λ r. ⌜ r ≡ promotes f g ⌝ }
 {
     match f {

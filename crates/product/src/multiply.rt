@@ -16,6 +16,7 @@ use masks::outcome::NO_ROOM;
 use masks::outcome::TOO_MANY_DIMS;
 use masks::outcome::WRONG_COUNT;
 use masks::shape::Shape;
+use masks::shape::promotion;
 ghost use mathlib.Core.Path.{_≡_};
 ghost use mathlib.Core.Bool.{_&&_};
 ghost use mathlib.Core.List.{[], _∷_};
@@ -28,32 +29,13 @@ ghost use Rattle.masks.specs.Shapes.{promotes};
 ghost use Rattle.product.specs.Pairwise.{product};
 ghost use Rattle.product.specs.Products.{GivesProduct, multiplied, multipliedOf, generalProduct, leftContraction, rightContraction, innerProduct, outerProduct};
 
-// Whether two flavors conform with no promotion.
-fn flavors_agree(f: Flavor, g: Flavor) -> bool
-    ensures { λ r. ⌜ r ≡ eqb (promotes f g + promotes g f) 0 ⌝ }
-{
-    match f {
-        Flavor::Vanilla => match g {
-            Flavor::Vanilla => true,
-            Flavor::Projective => false,
-            Flavor::Cl(_, _, _) => true,
-        },
-        Flavor::Projective => match g {
-            Flavor::Vanilla => false,
-            Flavor::Projective => true,
-            Flavor::Cl(_, _, _) => true,
-        },
-        Flavor::Cl(_, _, _) => true,
-    }
-}
-
 // Whether two values conform as they stand.
 fn agree(left: Shape, right: Shape) -> bool
     ensures { λ r. ⌜ r ≡ (eqb (left .dims) (right .dims) && eqb (promotes (left .flavor) (right .flavor) + promotes (right .flavor) (left .flavor)) 0) ⌝ }
 {
     let own = left.flavor;
     let theirs = right.flavor;
-    left.dims == right.dims && flavors_agree(own, theirs)
+    left.dims == right.dims && promotion(own, theirs) + promotion(theirs, own) == 0
 }
 
 // The number that a product of two values of one dimension is refused with, or 0.

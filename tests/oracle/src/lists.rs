@@ -169,6 +169,16 @@ fn texts(begin: &str, alphabet: &[u8], length: usize, each: &mut impl FnMut(Call
     }
 }
 
+/// From each kind of flavor to each.
+pub fn promotions(each: &mut impl FnMut(Call)) {
+    let flavors = [[0, 0, 0, 0], [1, 0, 0, 0], [2, 3, 0, 0], [2, 3, 0, 1], [2, 0, 0, 255]];
+    for f in flavors {
+        for g in flavors {
+            each(Call { op: PROMOTION, words: [&[0], &f[..], &[0], &g[..]].concat(), ..Call::default() });
+        }
+    }
+}
+
 /// Everything that is small enough to be listed whole.
 pub fn exhaustive(r: &mut Rng, each: &mut impl FnMut(Call)) {
     let few: Vec<u64> = (0..=12).chain([64, 255]).collect();
@@ -182,6 +192,7 @@ pub fn exhaustive(r: &mut Rng, each: &mut impl FnMut(Call)) {
         each(Call { op: BLADE_COUNT, words: vec![d], ..Call::default() });
     }
     each(Call { op: NULL_FLAVOR, ..Call::default() });
+    promotions(each);
     for index in 0..256 {
         each(Call { op: METRIC, words: vec![0, 0, 0, 0, 0, index], ..Call::default() });
         each(Call { op: METRIC, words: vec![0, 1, 0, 0, 0, index], ..Call::default() });

@@ -40,6 +40,7 @@ fn stored(each: &mut impl FnMut(line::Call)) {
             each(lists::random(&mut r, op, if i < 4 { 9 } else { 4 }));
         }
     }
+    lists::promotions(each);
     for op in products::ALL {
         for i in 0..120 {
             each(product_lists::random(&mut r, op, if i % 10 == 0 { 5 } else { 2 }));

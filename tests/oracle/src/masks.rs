@@ -32,6 +32,7 @@ pub const UNPACK_OWN_ODD: u64 = 24;
 pub const UNPACK_VECTOR: u64 = 25;
 
 pub const NULL_FLAVOR: u64 = 26;
+pub const PROMOTION: u64 = 32;
 
 /// Every call that takes something, in the order of its numbers.
 pub const ALL: std::ops::RangeInclusive<u64> = GRADE_SIZE..=UNPACK_VECTOR;
@@ -192,6 +193,12 @@ fn done(c: &Call) -> Given<Answer> {
         UNPACK_OWN_EVEN => unpacked(c, None, Some(SubSide::Left), half(w[0])),
         UNPACK_OWN_ODD => unpacked(c, None, Some(SubSide::Right), half(w[0])),
         UNPACK_VECTOR => unpacked(c, None, None, w[0] as usize),
+        // The dimensions that the Rust adds to a value of none.
+        PROMOTION => {
+            let mut m = rust::make(flavor(&w[1..]), &[1.0]);
+            m.set_flavor(flavor(&w[6..]));
+            Ok(Answer { words: vec![m.dims() as u64], ..Answer::default() })
+        }
         NULL_FLAVOR => Ok(Answer { words: flavor_words(Flavor::NULL).to_vec(), ..Answer::default() }),
         _ => unreachable!("no call has this number"),
     }
