@@ -2,11 +2,11 @@
 -- count of ones. Assumes nothing.
 use mathlib.Core.Path.{_≡_, refl, sym, _∙_, ap, ap₂}
 use mathlib.Core.Bool.{Bool, true, false, not, _&&_, _||_, cond, true≢false, false≢true}
-use mathlib.Core.Logic.{_≢_, ⊎-elim}
+use mathlib.Core.Logic.{_≢_, inl, inr, ⊎-elim}
 use Prim.Native.Nat.{ℕ, zero, suc, _+_, _*_, _/_, _%_, _^_, _<_, _≤_}
 use native.Mathlib.Omega.{arith}
 use native.Mathlib.Nat.{mod-lt, zero-lt-suc, lt-of-lt-of-le, lt-of-le-of-lt}
-use lib.Dec.{eqb, ltb, lit<, lit≤}
+use lib.Dec.{eqb, lit<, lit≤}
 use lib.Pow.{pow-pos, pow-mono}
 use lib.Bits.{bitAnd, bitXor, and-le-l, xor-lt}
 use lib.Count.{ones}
@@ -23,7 +23,6 @@ use Rattle.clifford.proofs.SignLaws.{sign-even, sign-odd, sign-add}
 use Rattle.clifford.proofs.PairsLaws.{nonzero-metric}
 use Rattle.clifford.proofs.Counting.{every, every-at}
 use Rattle.masks.specs.declared.flavor.Flavor.{Flavor}
-use Rattle.masks.specs.declared.flavor.Flavor.the-variants.{Vanilla, Projective, Cl}
 use Rattle.masks.specs.Flavors.{metricOf}
 use Rattle.masks.proofs.ListLaws.{split}
 use Rattle.product.specs.declared.mode.Mode.{Mode}
@@ -32,6 +31,7 @@ use Rattle.product.specs.declared.metric.Blade as Declared
 use Rattle.product.specs.Modes.{takes, flavorFor, pairMetric}
 use Rattle.product.specs.Gathered.{negative}
 use Rattle.product.specs.ByOnes.{maskOf, squaresBelow, withSquare, below, bladeOf, turnedOne, turns}
+use Rattle.product.proofs.MetricSigns.{Unital, unital-flavor}
 
 -- 1 for a test that passes.
 abbrev bit : Bool → ℕ
@@ -152,21 +152,14 @@ flipping g b i = odd (count i b) ⊻ (b i && negative (g i))
 abbrev Signed : (ℕ → ℤ) → Type 0
 Signed g = (i : ℕ) → nonzero (g i) ≡ true → g i ≡ sign (bit (negative (g i)))
 
+signed-unital : (m : ℤ) → Unital m → nonzero m ≡ true → m ≡ sign (bit (negative m))
+unfolding sign pow one
+signed-unital m (inl e) h = rw e
+signed-unital m (inr (inl e)) h = absurd (false≢true (ap nonzero (sym e) ∙ h))
+signed-unital m (inr (inr e)) h = rw e
+
 signed-flavor : (f : Flavor) → Signed (metricOf f)
-unfolding metricOf sign pow one
-signed-flavor Vanilla i h = refl
-signed-flavor Projective i h = go (eqb i 0) h
-  where
-    go : (x : Bool) → nonzero (cond x (pos 0) (pos 1)) ≡ true → cond x (pos 0) (pos 1) ≡ sign (bit (negative (cond x (pos 0) (pos 1))))
-    go true e = absurd (false≢true e)
-    go false e = refl
-signed-flavor (Cl p n z) i h = go (ltb i z) (ltb i (z + n)) h
-  where
-    go : (x y : Bool) → nonzero (cond x (pos 0) (cond y (negsuc 0) (pos 1))) ≡ true
-        → cond x (pos 0) (cond y (negsuc 0) (pos 1)) ≡ sign (bit (negative (cond x (pos 0) (cond y (negsuc 0) (pos 1)))))
-    go true y e = absurd (false≢true e)
-    go false true e = refl
-    go false false e = refl
+signed-flavor f i h = signed-unital (metricOf f i) (unital-flavor f i) h
 
 module _ (g : ℕ → ℤ) (signed : Signed g) (a b : Blade) where
   -- The pair shares no null vector at i.

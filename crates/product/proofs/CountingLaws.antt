@@ -2,7 +2,7 @@
 use mathlib.Core.Path.{_≡_, refl, _∙_, ap}
 use mathlib.Core.Bool.{Bool, true, false, cond}
 use Prim.Native.Nat.{ℕ, zero, suc, _+_, _-_, _*_, _^_, _<_, _≤_}
-use native.Mathlib.Nat.{pow-suc, sub-zero, sub-self}
+use native.Mathlib.Nat.{le-refl, sub-zero, sub-self}
 use native.Mathlib.Omega.{arith}
 use lib.Dec.{eqb·suc-zero}
 use lib.IntN.{ℤ}
@@ -17,6 +17,7 @@ use Rattle.masks.proofs.FlavorLaws.{null-metric}
 use Rattle.product.specs.declared.mode.Mode.the-variants.{All, Left, Right, Inner, Outer}
 use Rattle.product.specs.Modes.{takes, flavorFor}
 use Rattle.product.specs.Pairwise.{pairsOf}
+use Rattle.product.proofs.PowerLaws.{power-grows}
 
 -- `nullsOf f d` is k.
 abbrev pub nullsOf : Flavor → ℕ → ℕ
@@ -34,16 +35,12 @@ pub pairs-right : (f : Flavor) (d : ℕ) → pairsOf Right f d ≡ 3 ^ (d - null
 unfolding pairsOf takes flavorFor
 pairs-right f = Counted.pairs-right (metricOf f)
 
-pow-two-three : (n : ℕ) → 2 ^ n ≤ 3 ^ n
-pow-two-three zero = omega arith
-pow-two-three (suc n) = omega (arith, pow-two-three n, pow-suc 2 n, pow-suc 3 n)
-
 -- Inner's pairs and those of equal masks together are Left's and Right's.
 pub pairs-inner : (f : Flavor) (d : ℕ) → pairsOf Inner f d + 2 ^ (d - nullsOf f d) ≡ 2 * (3 ^ (d - nullsOf f d) * 2 ^ nullsOf f d)
 unfolding pairsOf takes flavorFor
 pairs-inner f d =
     added (pairsOf Inner f d) (2 ^ (d - nullsOf f d)) (3 ^ (d - nullsOf f d)) (2 ^ nullsOf f d) (Counted.pairs-inner (metricOf f) d)
-    (pow-two-three (d - nullsOf f d)) (pow-pos (nullsOf f d))
+    (power-grows 2 3 (d - nullsOf f d) (d - nullsOf f d) (omega arith) (omega arith) (le-refl (d - nullsOf f d))) (pow-pos (nullsOf f d))
   where
     added : (m n x y : ℕ) → m ≡ 2 * (x * y) - n → n ≤ x → 0 < y → m + n ≡ 2 * (x * y)
     added m n x zero e h l = absurd (omega arith)

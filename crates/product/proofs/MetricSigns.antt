@@ -20,7 +20,7 @@ use Rattle.product.specs.Modes.{takes, squares, flavorFor, pairMetric}
 use Rattle.product.specs.Gathered.{negative}
 
 -- A whole number is -1, 0 or 1.
-abbrev Unital : ℤ → Type 0
+abbrev pub Unital : ℤ → Type 0
 Unital m = (m ≡ negsuc 0) ⊎ ((m ≡ pos 0) ⊎ (m ≡ pos 1))
 
 minus-one : Unital (negsuc 0)
@@ -55,7 +55,7 @@ unfolding shared
 unital-shared g u zero a b = plus-one
 unital-shared g u (suc i) a b = unital-mul (shared g i a b) _ (unital-shared g u i a b) (choose (a i && b i) (g i) (pos 1) (u i) plus-one)
 
-unital-flavor : (f : Flavor) (i : ℕ) → Unital (metricOf f i)
+pub unital-flavor : (f : Flavor) (i : ℕ) → Unital (metricOf f i)
 unfolding metricOf
 unital-flavor Vanilla i = plus-one
 unital-flavor Projective i = choose (eqb i 0) (pos 0) (pos 1) nothing plus-one
