@@ -83,6 +83,44 @@ abbrev pub pairChecks : ℕ → ℕ → ℕ → ℕ → ℕ → ℕ → ℕ → 
 pairChecks d e n count countRight room roomRight =
     tooMany d ∷ tooMany e ∷ tooMany n ∷ wrongCount count d ∷ wrongCount countRight e ∷ noRoom room (2 ^ n) ∷ noRoom roomRight (2 ^ n) ∷ []
 
+-- of two values with one output
+abbrev pub pairTests : ℕ → ℕ → ℕ → ℕ → ℕ → ℕ → List Test
+pairTests d e n count countRight room =
+    tooMany d ∷ tooMany e ∷ tooMany n ∷ wrongCount count d ∷ wrongCount countRight e ∷ noRoom room (2 ^ n) ∷ []
+
+-- what a caller may rest on where a call on two values is not refused
+pub record Passed (d e n count countRight room : ℕ) : Type 0 where
+  pub small : d ≤ 9
+  pub smallRight : e ≤ 9
+  pub result : n ≤ 9
+  pub counted : count ≡ 2 ^ d
+  pub countedRight : countRight ≡ 2 ^ e
+  pub roomy : 2 ^ n ≤ room
+
+pub passed : (d e n count countRight room : ℕ) → refusal (pairTests d e n count countRight room) ≡ 0 → Passed d e n count countRight room
+passed d e n count countRight room z =
+    let p = past (tooMany d) _ (λ q. omega arith) z in
+    let q = past (tooMany e) _ (λ q. omega arith) (p .1) in
+    let r = past (tooMany n) _ (λ q. omega arith) (q .1) in
+    let s = past (wrongCount count d) _ (λ q. omega arith) (r .1) in
+    let t = past (wrongCount countRight e) _ (λ q. omega arith) (s .1) in
+    let u = past (noRoom room (2 ^ n)) _ (λ q. omega arith) (t .1) in
+    record {
+      small = ltb-false _ _ (p .0);
+      smallRight = ltb-false _ _ (q .0);
+      result = ltb-false _ _ (r .0);
+      counted = eqb-true _ _ (not-false _ (s .0));
+      countedRight = eqb-true _ _ (not-false _ (t .0));
+      roomy = ltb-false _ _ (u .0);
+    }
+
+-- where a pair is not refused with one output, the second output's room decides
+pub second-room : (d e n count countRight room roomRight : ℕ) → refusal (pairTests d e n count countRight room) ≡ 0 → refusal (pairChecks d e n count countRight room roomRight) ≡ refusal (noRoom roomRight (2 ^ n) ∷ [])
+unfolding refusal
+second-room d e n count countRight room roomRight z =
+    let p = passed d e n count countRight room z in
+    rw (le-ltb 9 d (p .small), le-ltb 9 e (p .smallRight), le-ltb 9 n (p .result), eq-eqb count (2 ^ d) (p .counted), eq-eqb countRight (2 ^ e) (p .countedRight), le-ltb room (2 ^ n) (p .roomy))
+
 -- Where the given dimensions of either are refused, the resulting ones do not count.
 pub pair-checks-same : (d e n m count countRight room roomRight : ℕ) → (d ≤ 9 → e ≤ 9 → n ≡ m) → refusal (pairChecks d e n count countRight room roomRight) ≡ refusal (pairChecks d e m count countRight room roomRight)
 pair-checks-same d e n m count countRight room roomRight h =

@@ -1,7 +1,7 @@
 -- What holds where a call is refused and where it is not; and that a contract of each kind leaves nothing open. Assumes nothing.
 use mathlib.Core.Path.{_≡_, refl, sym, ap, _∙_}
 use mathlib.Core.Bool.{Bool, true, false, cond}
-use mathlib.Core.List.{List, [], _∷_}
+use mathlib.Core.List.{List, [], _∷_, _++_}
 use Prim.Native.Nat.{ℕ, zero, suc, _^_, _≤_}
 use native.Mathlib.Omega.{arith}
 use lib.Dec.{ltb}
@@ -66,6 +66,16 @@ refused-first t ts e = rw e
 pub refused-later : (t : Test) (ts : List Test) → t .fails ≡ false → refusal (t ∷ ts) ≡ refusal ts
 unfolding refusal
 refused-later t ts e = rw e
+
+-- what a list of tests refuses, a longer one refuses
+pub refused-already : (ts us : List Test) → (refusal ts ≡ 0 → ⊥) → refusal (ts ++ us) ≡ refusal ts
+unfolding refusal
+refused-already [] us h = absurd (h refl)
+refused-already (t ∷ ts) us h = go (t .fails) h (refused-already ts us)
+  where
+    go : (b : Bool) → (cond b (t .number) (refusal ts) ≡ 0 → ⊥) → ((refusal ts ≡ 0 → ⊥) → refusal (ts ++ us) ≡ refusal ts) → cond b (t .number) (refusal (ts ++ us)) ≡ cond b (t .number) (refusal ts)
+    go true g f = refl
+    go false g f = f g
 
 -- ---- the result, or a refusal
 

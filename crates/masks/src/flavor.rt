@@ -59,7 +59,7 @@ impl Flavor {
     }
 
     // The dimensions that the flavor adds to those that are stated.
-    pub(crate) fn added_dims(self) -> u8
+    pub fn added_dims(self) -> u8
         ensures { λ r. ⌜ r ≡ addedDims self ⌝ }
     {
         match self {

@@ -4,6 +4,7 @@ use super::order::blade_count;
 use super::shape::Shape;
 ghost use mathlib.Core.Path.{_≡_};
 ghost use mathlib.Core.List.{[], _∷_};
+ghost use Prim.Native.Nat.{_^_};
 ghost use Rattle.masks.specs.Outcome.{answerOf, answersOf, refusedValue, refusedPair, value, shapeOf, refusal, tooMany, wrongCount, noRoom};
 
 // The largest number of dimensions, and of blades.
@@ -64,14 +65,14 @@ pub(crate) fn shape_of(dims: u8, flavor: Flavor) -> Shape
     Shape { dims, flavor }
 }
 
-pub(crate) fn refused(number: u8) -> Answer
+pub fn refused(number: u8) -> Answer
     ensures { λ r. ⌜ r ≡ answerOf (refusedValue number) ⌝ }
 {
     let shape = shape_of(0, Flavor::Vanilla);
     Answer { number, shape }
 }
 
-pub(crate) fn done(shape: Shape) -> Answer
+pub fn done(shape: Shape) -> Answer
     ensures { λ r. ⌜ r ≡ answerOf (value shape []) ⌝ }
 {
     Answer {
@@ -94,7 +95,7 @@ pub(crate) fn refused_pair(number: u8) -> Answers
 
 // The number that a call is refused with, or 0: its value has `dims` dimensions and `count` numbers, its result stands in
 // `result` dimensions, has `needed` numbers and goes to `room`.
-pub(crate) fn refusal_of(dims: u8, result: u8, count: usize, room: usize, needed: usize) -> u8
+pub fn refusal_of(dims: u8, result: u8, count: usize, room: usize, needed: usize) -> u8
     ensures { λ r. ⌜ r ≡ refusal (tooMany dims ∷ tooMany result ∷ wrongCount count dims ∷ noRoom room needed ∷ []) ⌝ }
 {
     if MAX_DIMS < dims {
@@ -113,7 +114,7 @@ pub(crate) fn refusal_of(dims: u8, result: u8, count: usize, room: usize, needed
 }
 
 // The same where there is a value and no output.
-pub(crate) fn value_refusal(dims: u8, count: usize) -> u8
+pub fn value_refusal(dims: u8, count: usize) -> u8
     ensures { λ r. ⌜ r ≡ refusal (tooMany dims ∷ wrongCount count dims ∷ []) ⌝ }
 {
     if MAX_DIMS < dims {
@@ -121,6 +122,38 @@ pub(crate) fn value_refusal(dims: u8, count: usize) -> u8
     }
     if count != blade_count(dims) {
         return WRONG_COUNT;
+    }
+    DONE
+}
+
+// The same for two values: the result stands in `result` dimensions and goes to `room`.
+pub fn pair_refusal(
+    dims: u8,
+    other: u8,
+    result: u8,
+    count: usize,
+    count_right: usize,
+    room: usize,
+) -> u8
+    ensures { λ r. ⌜ r ≡ refusal (tooMany dims ∷ tooMany other ∷ tooMany result ∷ wrongCount count dims ∷ wrongCount «count_right» other ∷ noRoom room (2 ^ result) ∷ []) ⌝ }
+{
+    if MAX_DIMS < dims {
+        return TOO_MANY_DIMS;
+    }
+    if MAX_DIMS < other {
+        return TOO_MANY_DIMS;
+    }
+    if MAX_DIMS < result {
+        return TOO_MANY_DIMS;
+    }
+    if count != blade_count(dims) {
+        return WRONG_COUNT;
+    }
+    if count_right != blade_count(other) {
+        return WRONG_COUNT;
+    }
+    if room < blade_count(result) {
+        return NO_ROOM;
     }
     DONE
 }

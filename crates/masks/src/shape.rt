@@ -9,9 +9,8 @@ use super::outcome::Answers;
 use super::outcome::DONE;
 use super::outcome::MAX_DIMS;
 use super::outcome::NO_ROOM;
-use super::outcome::TOO_MANY_DIMS;
-use super::outcome::WRONG_COUNT;
 use super::outcome::done;
+use super::outcome::pair_refusal;
 use super::outcome::refusal_of;
 use super::outcome::refused;
 use super::outcome::refused_pair;
@@ -73,23 +72,9 @@ fn conform_refusal(
 ) -> u8
     ensures { λ r. ⌜ r ≡ refusal (tooMany dims ∷ tooMany other ∷ tooMany result ∷ wrongCount count dims ∷ wrongCount «count_right» other ∷ noRoom room (2 ^ result) ∷ noRoom «room_right» (2 ^ result) ∷ []) ⌝ }
 {
-    if MAX_DIMS < dims {
-        return TOO_MANY_DIMS;
-    }
-    if MAX_DIMS < other {
-        return TOO_MANY_DIMS;
-    }
-    if MAX_DIMS < result {
-        return TOO_MANY_DIMS;
-    }
-    if count != blade_count(dims) {
-        return WRONG_COUNT;
-    }
-    if count_right != blade_count(other) {
-        return WRONG_COUNT;
-    }
-    if room < blade_count(result) {
-        return NO_ROOM;
+    let no = pair_refusal(dims, other, result, count, count_right, room);
+    if no != DONE {
+        return no;
     }
     if room_right < blade_count(result) {
         return NO_ROOM;
@@ -131,14 +116,16 @@ fn conform_both(
 }
 
 impl Shape {
-    pub(crate) fn with_dims(self, dims: u8) -> Shape
+    // The shape with other dimensions.
+    pub fn with_dims(self, dims: u8) -> Shape
         ensures { λ r. ⌜ r ≡ withDims self dims ⌝ }
     {
         let flavor = self.flavor;
         Shape { dims, flavor }
     }
 
-    pub(crate) fn with_flavor(self, flavor: Flavor) -> Shape
+    // The shape with another flavor, and nothing else: no promotion.
+    pub fn with_flavor(self, flavor: Flavor) -> Shape
         ensures { λ r. ⌜ r ≡ withFlavor self flavor ⌝ }
     {
         Shape {

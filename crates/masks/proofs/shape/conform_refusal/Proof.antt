@@ -1,113 +1,60 @@
--- `masks::shape::conform_refusal` meets its contract, by the tests on the way. Assumes nothing.
-use mathlib.Core.Path.{_≡_, sym, _∙_}
+-- `masks::shape::conform_refusal` meets its contract: the tests of a pair, then the room on the right. Assumes nothing.
+use mathlib.Core.Path.{_≡_, refl, sym, _∙_}
+use mathlib.Core.List.{[], _∷_}
 use Prim.Native.Nat.{_^_, _≤_, _<_}
 use native.Mathlib.Omega.{arith}
 use borrow.Author.Needs.{needs}
-use borrow.Author.Tests.{eq-eqb, ne-eqb, lt-ltb, le-ltb}
-use Rattle.masks.specs.Outcome.{refusal}
+use borrow.Author.Tests.{lt-ltb, le-ltb}
+use Rattle.masks.specs.Outcome.{refusal, noRoom}
+use Rattle.masks.proofs.RefusalLaws.{refused-already, refused-first, refused-later}
+use Rattle.masks.proofs.ChangeLaws.{pairTests, pairChecks, passed, second-room}
 use Rattle.masks.proofs.ShapeLaws.{count-small}
 use Rattle.masks.proofs.shape.conform_refusal.Statement.{statement}
 use Rattle.masks.proofs.shape.conform_refusal.Tie as tie
 
+nothing : refusal [] ≡ 0
+unfolding refusal
+nothing = refl
+
+pair-refusal-requires : tie.Need-pair-refusal-requires
+pair-refusal-requires c κs = search needs
+
 returns : tie.Need-returns
-unfolding refusal
-returns c = simp (lt-ltb 9 _ (c .if1 .taken))
+returns c =
+    let a = c .before .before .args in
+    let e = c .before .pair-refusal .ensures in
+    e ∙ sym (refused-already (pairTests (a .dims) (a .other) (a .result) (a .count) (a .count-right) (a .room)) (noRoom (a .room-right) (2 ^ a .result) ∷ []) (λ z. c .if1 .taken (e ∙ z)))
 
-returns-2 : tie.Need-returns-2
-unfolding refusal
-returns-2 c = simp (le-ltb 9 _ (c .before .if1 .left), lt-ltb 9 _ (c .if2 .taken))
+-- The tests of the pair refuse nothing.
+unrefused : (c : tie.Else1) → let a = c .before .before .args in refusal (pairTests (a .dims) (a .other) (a .result) (a .count) (a .count-right) (a .room)) ≡ 0
+unrefused c = sym (c .before .pair-refusal .ensures) ∙ c .if1 .left
 
-returns-3 : tie.Need-returns-3
-unfolding refusal
-returns-3 c = simp (le-ltb 9 _ (c .before .before .if1 .left), le-ltb 9 _ (c .before .if2 .left), lt-ltb 9 _ (c .if3 .taken))
+-- The count of blades is that of the result.
+counted : (b : tie.After-blade-count) → b .blade-count .result ≡ 2 ^ b .before .before .before .args .result
+counted b =
+    let a = b .before .before .before .args in
+    b .blade-count .ensures ∙ count-small _ (passed (a .dims) (a .other) (a .result) (a .count) (a .count-right) (a .room) (unrefused (b .before)) .result)
+
+-- The room on the right decides.
+decided : (b : tie.After-blade-count) → let a = b .before .before .before .args in refusal (pairChecks (a .dims) (a .other) (a .result) (a .count) (a .count-right) (a .room) (a .room-right)) ≡ refusal (noRoom (a .room-right) (2 ^ a .result) ∷ [])
+decided b =
+    let a = b .before .before .before .args in
+    second-room (a .dims) (a .other) (a .result) (a .count) (a .count-right) (a .room) (a .room-right) (unrefused (b .before))
 
 blade-count-requires : tie.Need-blade-count-requires
 blade-count-requires c κs = search needs
 
-returns-4 : tie.Need-returns-4
-unfolding refusal
-returns-4 c =
-    let t = c .before .before in
-    let d = t .before .before .if1 .left in
-    let b = c .before .blade-count .ensures ∙ count-small _ d in
-    simp (le-ltb 9 _ d, le-ltb 9 _ (t .before .if2 .left), le-ltb 9 _ (t .if3 .left), ne-eqb _ _ (λ e. c .if4 .taken (e ∙ sym b)))
+returns-2 : tie.Need-returns-2
+returns-2 c =
+    let a = c .before .before .before .before .args in
+    let h : a .room-right < 2 ^ a .result = omega (arith, c .if2 .taken, counted (c .before)) in
+    sym (decided (c .before) ∙ refused-first (noRoom (a .room-right) (2 ^ a .result)) [] (lt-ltb _ _ h))
 
-blade-count-requires-2 : tie.Need-blade-count-requires-2
-blade-count-requires-2 c κs = search needs
-
--- the value on the left has its count
-left : (c : tie.Else4) → c .before .before .before .before .before .args .count ≡ 2 ^ (c .before .before .before .before .before .args .dims)
-left c = c .if4 .left ∙ c .before .blade-count .ensures ∙ count-small _ (c .before .before .before .before .if1 .left)
-
-returns-5 : tie.Need-returns-5
-unfolding refusal
-returns-5 c =
-    let u = c .before .before in
-    let t = u .before .before in
-    let o = t .before .if2 .left in
-    let b = c .before .blade-count2 .ensures ∙ count-small _ o in
-    simp (le-ltb 9 _ (t .before .before .if1 .left), le-ltb 9 _ o, le-ltb 9 _ (t .if3 .left), eq-eqb _ _ (left u), ne-eqb _ _ (λ e. c .if5 .taken (e ∙ sym b)))
-
-blade-count-requires-3 : tie.Need-blade-count-requires-3
-blade-count-requires-3 c κs = search needs
-
--- and so has the value on the right
-right : (c : tie.Else5) → c .before .before .before .before .before .before .before .args .count-right ≡ 2 ^ (c .before .before .before .before .before .before .before .args .other)
-right c = c .if5 .left ∙ c .before .blade-count2 .ensures ∙ count-small _ (c .before .before .before .before .before .if2 .left)
-
-returns-6 : tie.Need-returns-6
-unfolding refusal
-returns-6 c =
-    let v = c .before .before in
-    let u = v .before .before in
-    let t = u .before .before in
-    let a = t .before .before .before .args in
-    let r = t .if3 .left in
-    let h : a .room < 2 ^ (a .result) = omega (arith, c .before .blade-count3 .ensures ∙ count-small _ r) in
-    simp (le-ltb 9 _ (t .before .before .if1 .left), le-ltb 9 _ (t .before .if2 .left), le-ltb 9 _ r, eq-eqb _ _ (left u), eq-eqb _ _ (right v), lt-ltb _ _ h)
-
-blade-count-requires-4 : tie.Need-blade-count-requires-4
-blade-count-requires-4 c κs = search needs
-
-returns-7 : tie.Need-returns-7
-unfolding refusal
-returns-7 c =
-    let w = c .before .before in
-    let v = w .before .before in
-    let u = v .before .before in
-    let t = u .before .before in
-    let a = t .before .before .before .args in
-    let r = t .if3 .left in
-    let g : 2 ^ (a .result) ≤ a .room = omega (arith, w .before .blade-count3 .ensures ∙ count-small _ r) in
-    let h : a .room-right < 2 ^ (a .result) = omega (arith, c .before .blade-count4 .ensures ∙ count-small _ r) in
-    simp (le-ltb 9 _ (t .before .before .if1 .left), le-ltb 9 _ (t .before .if2 .left), le-ltb 9 _ r, eq-eqb _ _ (left u), eq-eqb _ _ (right v), le-ltb _ _ g, lt-ltb _ _ h)
-
-returns-8 : tie.Need-returns-8
-unfolding refusal
-returns-8 c =
-    let w = c .before .before in
-    let v = w .before .before in
-    let u = v .before .before in
-    let t = u .before .before in
-    let a = t .before .before .before .args in
-    let r = t .if3 .left in
-    let g : 2 ^ (a .result) ≤ a .room = omega (arith, w .before .blade-count3 .ensures ∙ count-small _ r) in
-    let h : 2 ^ (a .result) ≤ a .room-right = omega (arith, c .before .blade-count4 .ensures ∙ count-small _ r) in
-    simp (le-ltb 9 _ (t .before .before .if1 .left), le-ltb 9 _ (t .before .if2 .left), le-ltb 9 _ r, eq-eqb _ _ (left u), eq-eqb _ _ (right v), le-ltb _ _ g, le-ltb _ _ h)
+returns-3 : tie.Need-returns-3
+returns-3 c =
+    let a = c .before .before .before .before .args in
+    let h : 2 ^ a .result ≤ a .room-right = omega (arith, c .if2 .left, counted (c .before)) in
+    sym (decided (c .before) ∙ refused-later (noRoom (a .room-right) (2 ^ a .result)) [] (le-ltb _ _ h) ∙ nothing)
 
 pub conform-refusal-spec : {M : Type 1} → statement M
-conform-refusal-spec =
-    tie.close
-    (tie.spec
-    returns
-    returns-2
-    returns-3
-    blade-count-requires
-    returns-4
-    blade-count-requires-2
-    returns-5
-    blade-count-requires-3
-    returns-6
-    blade-count-requires-4
-    returns-7
-    returns-8)
+conform-refusal-spec = tie.close (tie.spec pair-refusal-requires returns blade-count-requires returns-2 returns-3)
