@@ -1,0 +1,76 @@
+-- `arithmetic::operators::result_dims` meets its contract: the larger of both sides, each promoted where it is. Assumes nothing.
+use mathlib.Core.Path.{_≡_, sym, ap, _∙_}
+use mathlib.Core.Logic.{⊎-elim}
+use mathlib.Core.Bool.{cond}
+use mathlib.Core.List.{List}
+use Prim.Native.Nat.{ℕ, _+_, max}
+use native.Mathlib.Nat.{add-zero, max-eq-left, max-eq-right}
+use native.Mathlib.Omega.{arith}
+use lib.Ieee.{Float}
+use Rattle.masks.specs.declared.shape.Shape.{Shape}
+use Rattle.masks.specs.Shapes.{promotes}
+use Rattle.masks.proofs.ChangeLaws.{promotes-le}
+use Rattle.arithmetic.specs.Operators.{isOther, resultDims}
+use borrow.Author.Needs.{needs}
+use Rattle.arithmetic.proofs.operators.result_dims.Statement.{statement}
+use Rattle.arithmetic.proofs.operators.result_dims.Tie as tie
+
+returns : tie.Need-returns
+returns c = search needs
+
+returns-2 : tie.Need-returns-2
+returns-2 c = search needs
+
+promotion-requires : tie.Need-promotion-requires
+promotion-requires c κs = search needs
+
+add-up : tie.Need-add-up
+add-up c =
+    let a = c .before .before .before .before .before .before .before .args in
+    omega (arith, c .before .promotion .ensures, promotes-le (a .left .flavor) (a .right .flavor))
+
+is-other-requires : tie.Need-is-other-requires
+is-other-requires c κs = search needs
+
+promotion-requires-2 : tie.Need-promotion-requires-2
+promotion-requires-2 c κs = search needs
+
+add-up-right : tie.Need-add-up-right
+add-up-right c =
+    let a = c .before .before .before .before .before .before .before .before .before .before .before .args in
+    omega (arith, c .before .promotion2 .ensures, promotes-le (a .right .flavor) (a .left .flavor))
+
+-- The right side's dimensions, promoted where it is not scalar.
+right : (c : tie.Joined3) → let a = c .before .before .before .before .before .before .before .before .before .args in c .if3 .up-right ≡ a .right .dims + cond (isOther (a .right) (a .b .now)) (promotes (a .right .flavor) (a .left .flavor)) 0
+right c =
+    let e = c .before .is-other .ensures in
+    let d = c .before .before .before .before .before .before .before .before .before .args .right .dims in
+    ⊎-elim
+    (λ w. w .3 ∙ ap (λ (n : ℕ). d + n) (w .1 .ensures ∙ rw (sym e ∙ w .0 .taken)))
+    (λ w. w .1 ∙ sym (add-zero d) ∙ ap (λ (n : ℕ). d + n) (rw (sym e ∙ w .0 .left)))
+    (c .if3 .came)
+
+-- The larger of both sides.
+dims-are : (s t : Shape) (b : List Float) (u v : ℕ) → u ≡ promotes (s .flavor) (t .flavor) → v ≡ t .dims + cond (isOther t b) (promotes (t .flavor) (s .flavor)) 0 → max (s .dims + u) v ≡ resultDims s t b
+unfolding resultDims
+dims-are s t b u v e f = rw (e, f)
+
+returns-3 : tie.Need-returns-3
+returns-3 c h k = sym (max-eq-right (omega (arith, c .if4 .taken))) ∙ dims-are _ _ _ _ _ (c .before .before .before .before .promotion .ensures) (right (c .before))
+
+returns-4 : tie.Need-returns-4
+returns-4 c h k = sym (max-eq-left (omega (arith, c .if4 .left))) ∙ dims-are _ _ _ _ _ (c .before .before .before .before .promotion .ensures) (right (c .before))
+
+pub result-dims-spec : {M : Type 1} → statement M
+result-dims-spec =
+    tie.close
+    (tie.spec
+    returns
+    returns-2
+    promotion-requires
+    add-up
+    is-other-requires
+    promotion-requires-2
+    add-up-right
+    returns-3
+    returns-4)

@@ -1,0 +1,71 @@
+-- Whole powers. Assumes nothing.
+use mathlib.Core.Bool.{Bool, true, false, _&&_, _||_, cond}
+use mathlib.Core.List.{List, [], _∷_}
+use Prim.Native.Nat.{ℕ, zero, suc, _+_, _^_, _/_, _%_}
+use lib.Dec.{eqb}
+use lib.Ieee.{Float}
+use lib.IntN.{ℤ, pos, negsuc}
+use lib.ListN.{length}
+use Rattle.masks.specs.declared.shape.Shape.{Shape}
+use Rattle.masks.specs.Flavors.{addedDims}
+use Rattle.masks.specs.Outcome.{Outcome, refusal, tooMany, wrongCount, noRoom, unless, value, refusedValue}
+use Rattle.masks.specs.Shapes.{withDims}
+use Rattle.masks.specs.Build.{scalar}
+use Rattle.arithmetic.specs.Scalar.{testOf, wasPlanar}
+use Rattle.arithmetic.specs.Kept.{unit}
+use Rattle.arithmetic.specs.Operators.{multiply}
+use Rattle.arithmetic.specs.Duals.{ample}
+use Rattle.arithmetic.specs.Inverse.{squared, inverseOf}
+
+-- ---- the exponent
+
+abbrev pub isNegative : ℤ → Bool
+isNegative (pos n) = false
+isNegative (negsuc n) = true
+
+-- The size of a whole number.
+abbrev pub sizeOf : ℤ → ℕ
+sizeOf (pos n) = n
+sizeOf (negsuc n) = suc n
+
+-- 1, 2, -1, -2 are direct.
+unfoldable pub isDirect : ℕ → Bool
+isDirect n = eqb n 1 || eqb n 2
+
+-- ---- the power
+
+-- Others start from `scalar`, so under Projective the result has one dimension more.
+unfoldable pub powerDims : Shape → ℕ → ℕ
+powerDims s n = cond (isDirect n) (s .dims) (s .dims + addedDims (s .flavor))
+
+-- `raised s k n r x` takes k digits of n, the low one first: where it is 1, r is multiplied by the base x with `*`; then the base is squared by the pairwise product.
+unfoldable pub raised : Shape → ℕ → ℕ → List Float → List Float → List Float
+raised s zero n r x = r
+raised s (suc k) n r x =
+    raised s k (n / 2) (cond (eqb (n % 2) 1) (multiply (withDims s (s .dims + addedDims (s .flavor))) s r x ample .coefs) r) (squared s x)
+
+-- A power of at most 31 digits.
+unfoldable pub byDigits : Shape → ℕ → List Float → List Float
+byDigits s n x = raised s 31 n (scalar (s .dims) unit (s .flavor) ample .coefs) x
+
+-- x to the n.
+unfoldable pub raisedTo : Shape → ℕ → List Float → List Float
+raisedTo s n x = cond (eqb n 1) x (cond (eqb n 2) (squared s x) (byDigits s n x))
+
+-- A negative power is that of the inverse.
+unfoldable pub powerOf : Shape → ℤ → List Float → List Float
+powerOf s p a = raisedTo s (sizeOf p) (cond (isNegative p) (inverseOf s a) a)
+
+-- ---- the call
+
+-- 5: a negative power of a planar value; 6: the power is the least i32.
+unfoldable pub powerRefusal : Shape → ℤ → List Float → ℕ → ℕ
+powerRefusal s p a room =
+    let n = powerDims s (sizeOf p) in
+    refusal
+    (tooMany (s .dims) ∷ tooMany n ∷ wrongCount (length a) (s .dims) ∷ noRoom room (2 ^ n)
+    ∷ record { fails = isNegative p && wasPlanar (testOf s a); number = 5 }
+    ∷ record { fails = eqb (sizeOf p) (2 ^ 31); number = 6 } ∷ [])
+
+unfoldable pub power : Shape → ℤ → List Float → ℕ → Outcome
+power s p a room = unless refusedValue (powerRefusal s p a room) (value (withDims s (powerDims s (sizeOf p))) (powerOf s p a))

@@ -1,0 +1,182 @@
+// `*`, `+` and `-` of two values.
+use super::scalar::ScalarTest;
+use super::scalar::is_scalar;
+use super::scalar::test_of;
+use super::scale::scale;
+use masks::order::blade_count;
+use masks::outcome::Answer;
+use masks::outcome::DONE;
+use masks::outcome::MAX_DIMS;
+use masks::outcome::done;
+use masks::outcome::pair_refusal;
+use masks::outcome::refused;
+use masks::shape::Shape;
+use masks::shape::promotion;
+use product::multiply::general_product;
+ghost use mathlib.Core.Path.{_≡_};
+ghost use Prim.Native.Nat.{_^_, _≤_};
+ghost use lib.ListN.{length, take};
+ghost use Rattle.masks.specs.Outcome.{Gives, laid};
+ghost use Rattle.masks.specs.Shapes.{conformTo, conform};
+ghost use Rattle.product.specs.Products.{generalProduct};
+ghost use Rattle.arithmetic.specs.declared.operators.Sum.the-variants.{Plus, Minus};
+ghost use Rattle.arithmetic.specs.Kept.{scaled};
+ghost use Rattle.arithmetic.specs.Operators.{isOther, resultDims, operatorRefusal, withCoefs, multiply, summed, summedAt0, summedEach, summedPair, addition};
+
+// A sum or a difference.
+pub enum Sum {
+    Plus,
+    Minus,
+}
+
+// Whether a value has the numbers of its dimensions and is not scalar.
+pub(crate) fn is_other(shape: Shape, b: &[f64]) -> bool
+    requires { ⌜ shape .dims ≤ 9 ⌝ }
+    ensures { λ r. ⌜ r ≡ isOther shape (now (b .entry)) ⌝ }
+{
+    b.len() == blade_count(shape.dims) && !is_scalar(b)
+}
+
+// The dimensions of the result; 10, which is refused, where given ones are above 9.
+pub(crate) fn result_dims(left: Shape, right: Shape, b: &[f64]) -> u8
+    ensures { λ r. ⌜ (left .dims ≤ 9 → right .dims ≤ 9 → r ≡ resultDims left right (now (b .entry))) ⌝ }
+{
+    if MAX_DIMS < left.dims {
+        return 10;
+    }
+    if MAX_DIMS < right.dims {
+        return 10;
+    }
+    let own = left.flavor;
+    let theirs = right.flavor;
+    let up = left.dims + promotion(own, theirs);
+    let up_right = if is_other(right, b) {
+        right.dims + promotion(theirs, own)
+    } else {
+        right.dims
+    };
+    if up < up_right { up_right } else { up }
+}
+
+// The number that an operator is refused with, or 0.
+pub(crate) fn operator_refusal(left: Shape, right: Shape, a: &[f64], b: &[f64], room: usize) -> u8
+    ensures { λ r. ⌜ r ≡ operatorRefusal left right (now (a .entry)) (now (b .entry)) room ⌝ }
+{
+    let n = result_dims(left, right, b);
+    pair_refusal(left.dims, right.dims, n, a.len(), b.len(), room)
+}
+
+// The left side conformed, and each coefficient multiplied by f.
+fn mul_scalar(left: Shape, right: Shape, f: f64, a: &[f64], out: &mut [f64]) -> Answer
+    ensures { λ r. ⌜ Gives (withCoefs (scaled f) (conformTo left right (now (a .entry)) (length (now (out .entry))))) r (now (out .entry)) (now (out .exit)) ⌝ }
+{
+    let r = left.conform_to(right, a, out);
+    if r.number == DONE {
+        let shape = r.shape;
+        scale(blade_count(shape.dims), f, out);
+    }
+    r
+}
+
+// The general product, without its count of pairs.
+fn mul_other(left: Shape, right: Shape, a: &[f64], b: &[f64], out: &mut [f64]) -> Answer
+    ensures { λ r. ⌜ Gives (generalProduct left right (now (a .entry)) (now (b .entry)) (length (now (out .entry))) .outcome) r (now (out .entry)) (now (out .exit)) ⌝ }
+{
+    let p = general_product(left, right, a, b, out);
+    let number = p.number;
+    let shape = p.shape;
+    Answer { number, shape }
+}
+
+// `*`: by a scalar on the right each coefficient is multiplied, with no snap; else the general product.
+pub fn mul(left: Shape, right: Shape, a: &[f64], b: &[f64], out: &mut [f64]) -> Answer
+    ensures { λ r. ⌜ Gives (multiply left right (now (a .entry)) (now (b .entry)) (length (now (out .entry)))) r (now (out .entry)) (now (out .exit)) ⌝ }
+{
+    let no = operator_refusal(left, right, a, b, out.len());
+    if no != DONE {
+        return refused(no);
+    }
+    let test = test_of(right, b);
+    match test {
+        ScalarTest::Scalar(f) => mul_scalar(left, right, f, a, out),
+        ScalarTest::Planar(_) => mul_other(left, right, a, b, out),
+        ScalarTest::Neither => mul_other(left, right, a, b, out),
+    }
+}
+
+fn sum_of(op: Sum, x: f64, y: f64) -> f64
+    ensures { λ r. ⌜ r ≡ summed op x y ⌝ }
+{
+    match op {
+        Sum::Plus => x + y,
+        Sum::Minus => x - y,
+    }
+}
+
+// The sums of the numbers at the front with those of b.
+fn sum_each(op: Sum, b: &[f64], out: &mut [f64])
+    requires { ⌜ length (now b) ≤ length (now out) ⌝ }
+    ensures { λ _. ⌜ now (out .exit) ≡ laid (summedEach op (take (length (now (b .entry))) (now (out .entry))) (now (b .entry))) (now (out .entry)) ⌝ }
+{
+    let mut k: usize = 0;
+    while k < b.len() {
+        out[k] = sum_of(op, out[k], b[k]);
+        k += 1;
+    }
+}
+
+// The left side conformed, and f added at place 0.
+fn add_scalar(op: Sum, left: Shape, right: Shape, f: f64, a: &[f64], out: &mut [f64]) -> Answer
+    ensures { λ r. ⌜ Gives (withCoefs (summedAt0 op f) (conformTo left right (now (a .entry)) (length (now (out .entry))))) r (now (out .entry)) (now (out .exit)) ⌝ }
+{
+    let r = left.conform_to(right, a, out);
+    if r.number == DONE {
+        out[0] = sum_of(op, out[0], f);
+    }
+    r
+}
+
+// Both sides conformed, the left one in the output, and added everywhere.
+fn add_other(op: Sum, left: Shape, right: Shape, a: &[f64], b: &[f64], out: &mut [f64]) -> Answer
+    ensures { λ r. ⌜ Gives (summedPair op (conform left right (now (a .entry)) (now (b .entry)) (length (now (out .entry))) 512)) r (now (out .entry)) (now (out .exit)) ⌝ }
+{
+    let mut y = [0.0; 512];
+    let c = left.conform(right, a, b, out, &mut y);
+    if c.number != DONE {
+        return refused(c.number);
+    }
+    let shape = c.left;
+    let n = blade_count(shape.dims);
+    sum_each(op, &y[0..n], out);
+    done(shape)
+}
+
+// `+` or `-`: by a scalar on the right at place 0; else everywhere.
+fn add_values(op: Sum, left: Shape, right: Shape, a: &[f64], b: &[f64], out: &mut [f64]) -> Answer
+    ensures { λ r. ⌜ Gives (addition op left right (now (a .entry)) (now (b .entry)) (length (now (out .entry)))) r (now (out .entry)) (now (out .exit)) ⌝ }
+{
+    let no = operator_refusal(left, right, a, b, out.len());
+    if no != DONE {
+        return refused(no);
+    }
+    let test = test_of(right, b);
+    match test {
+        ScalarTest::Scalar(f) => add_scalar(op, left, right, f, a, out),
+        ScalarTest::Planar(_) => add_other(op, left, right, a, b, out),
+        ScalarTest::Neither => add_other(op, left, right, a, b, out),
+    }
+}
+
+// `+` of two values.
+pub fn add(left: Shape, right: Shape, a: &[f64], b: &[f64], out: &mut [f64]) -> Answer
+    ensures { λ r. ⌜ Gives (addition Plus left right (now (a .entry)) (now (b .entry)) (length (now (out .entry)))) r (now (out .entry)) (now (out .exit)) ⌝ }
+{
+    add_values(Sum::Plus, left, right, a, b, out)
+}
+
+// `-` of two values.
+pub fn sub(left: Shape, right: Shape, a: &[f64], b: &[f64], out: &mut [f64]) -> Answer
+    ensures { λ r. ⌜ Gives (addition Minus left right (now (a .entry)) (now (b .entry)) (length (now (out .entry)))) r (now (out .entry)) (now (out .exit)) ⌝ }
+{
+    add_values(Sum::Minus, left, right, a, b, out)
+}

@@ -1,0 +1,28 @@
+// What the calls of this crate answer that no call below does.
+use masks::shape::Shape;
+
+// A yes or no.
+pub struct YesNo {
+    pub number: u8,
+    pub yes: bool,
+}
+
+// How the left of two values compares with the right.
+pub enum Ordering {
+    Less,
+    Equal,
+    Greater,
+}
+
+// An order.
+pub struct Ordered {
+    pub number: u8,
+    pub order: Ordering,
+}
+
+// A value whose scalar was taken: its coefficients are in the lent output.
+pub struct Taken {
+    pub number: u8,
+    pub shape: Shape,
+    pub value: f64,
+}

@@ -1,0 +1,66 @@
+// Division by a value.
+use super::inverse::put_inverse;
+use super::operators::mul;
+use super::operators::operator_refusal;
+use super::scalar::ScalarTest;
+use super::scalar::test_of;
+use super::scale::div_f64;
+use masks::outcome::Answer;
+use masks::outcome::DONE;
+use masks::outcome::PLANAR;
+use masks::outcome::pair_refusal;
+use masks::outcome::refused;
+use masks::outcome::value_refusal;
+use masks::shape::Shape;
+ghost use mathlib.Core.Path.{_≡_};
+ghost use mathlib.Core.Bool.{true};
+ghost use mathlib.Core.List.{[], _∷_, _++_};
+ghost use Prim.Native.Nat.{_^_, _≤_};
+ghost use lib.ListN.{length};
+ghost use Rattle.masks.specs.Outcome.{Gives, refusal};
+ghost use Rattle.arithmetic.specs.Operators.{pairTests, resultDims, multiply};
+ghost use Rattle.arithmetic.specs.Inverse.{inverseOf, quotient};
+
+// The number of a division by a planar value, which has no inverse here: 5, where no lower one applies.
+fn planar_refusal(left: Shape, right: Shape, a: &[f64], b: &[f64], room: usize) -> u8
+    ensures { λ r. ⌜ r ≡ refusal (pairTests left right (resultDims left right (now (b .entry))) (now (a .entry)) (now (b .entry)) room ++ record { fails = true; number = 5 } ∷ []) ⌝ }
+{
+    let no = operator_refusal(left, right, a, b, room);
+    if no != DONE {
+        return no;
+    }
+    PLANAR
+}
+
+// The left side times the inverse of the right.
+fn mul_inverse(left: Shape, right: Shape, a: &[f64], b: &[f64], out: &mut [f64]) -> Answer
+    requires { ⌜ (right .dims ≤ 9) × (length (now b) ≡ 2 ^ (right .dims)) × (length (inverseOf right (now b)) ≡ 2 ^ (right .dims)) ⌝ }
+    ensures { λ r. ⌜ Gives (multiply left right (now (a .entry)) (inverseOf right (now (b .entry))) (length (now (out .entry)))) r (now (out .entry)) (now (out .exit)) ⌝ }
+{
+    let mut inverse = [0.0; 512];
+    put_inverse(right, b, &mut inverse);
+    mul(left, right, a, &inverse[0..b.len()], out)
+}
+
+// `/` by a value: by a scalar one nothing is conformed; by others it multiplies by the inverse.
+pub fn div(left: Shape, right: Shape, a: &[f64], b: &[f64], out: &mut [f64]) -> Answer
+    ensures { λ r. ⌜ Gives (quotient left right (now (a .entry)) (now (b .entry)) (length (now (out .entry)))) r (now (out .entry)) (now (out .exit)) ⌝ }
+{
+    if value_refusal(right.dims, b.len()) != DONE {
+        let no = pair_refusal(
+            left.dims,
+            right.dims,
+            left.dims,
+            a.len(),
+            b.len(),
+            out.len(),
+        );
+        return refused(no);
+    }
+    let test = test_of(right, b);
+    match test {
+        ScalarTest::Scalar(f) => div_f64(left, f, a, out),
+        ScalarTest::Planar(_) => refused(planar_refusal(left, right, a, b, out.len())),
+        ScalarTest::Neither => mul_inverse(left, right, a, b, out),
+    }
+}

@@ -1,0 +1,2 @@
+-- The law that the proofs of `timed` cite.
+pub mod TimedLaws
