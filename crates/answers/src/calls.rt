@@ -1,121 +1,23 @@
 // The calls by their number: what goes in from words and numbers, what comes out as words and in the outputs.
+use super::shapes::byte;
+use super::shapes::flavor_at;
+use super::shapes::flavor_in;
+use super::shapes::put_answer;
+use super::shapes::put_count;
+use super::shapes::put_first;
+use super::shapes::put_product;
+use super::shapes::put_second_shape;
+use super::shapes::put_shape;
+use super::shapes::second_shape;
+use super::shapes::shape_in;
+use super::shapes::words_of;
+use super::values;
 use masks::build;
 use masks::flavor::Flavor;
 use masks::flavor::Metric;
 use masks::order;
-use masks::outcome::Answer;
-use masks::outcome::Count;
-use masks::shape::Shape;
+use masks::outcome;
 use product::multiply;
-use product::outcome::Product;
-
-fn byte(x: u64) -> u8 {
-    (x % 256) as u8
-}
-
-fn flavor_at(kind: u64, p: u64, n: u64, z: u64) -> Flavor {
-    if kind == 0 {
-        return Flavor::Vanilla;
-    }
-    if kind == 1 {
-        return Flavor::Projective;
-    }
-    Flavor::Cl(byte(p), byte(n), byte(z))
-}
-
-// A flavor is kind, p, n, z, after one word.
-fn flavor_in(ins: &[u64; 16]) -> Flavor {
-    flavor_at(ins[1], ins[2], ins[3], ins[4])
-}
-
-// A shape is dims, kind, p, n, z.
-fn shape_in(ins: &[u64; 16]) -> Shape {
-    let flavor = flavor_in(ins);
-    Shape {
-        dims: byte(ins[0]),
-        flavor,
-    }
-}
-
-fn second_shape(ins: &[u64; 16]) -> Shape {
-    let flavor = flavor_at(ins[6], ins[7], ins[8], ins[9]);
-    Shape {
-        dims: byte(ins[5]),
-        flavor,
-    }
-}
-
-// A flavor as words.
-struct Words {
-    kind: u64,
-    p: u64,
-    n: u64,
-    z: u64,
-}
-
-fn words_of(f: Flavor) -> Words {
-    match f {
-        Flavor::Vanilla => Words {
-            kind: 0,
-            p: 0,
-            n: 0,
-            z: 0,
-        },
-        Flavor::Projective => Words {
-            kind: 1,
-            p: 0,
-            n: 0,
-            z: 0,
-        },
-        Flavor::Cl(p, n, z) => Words {
-            kind: 2,
-            p: p as u64,
-            n: n as u64,
-            z: z as u64,
-        },
-    }
-}
-
-fn put_shape(s: Shape, outs: &mut [u64; 16]) {
-    let f = s.flavor;
-    let w = words_of(f);
-    outs[1] = s.dims as u64;
-    outs[2] = w.kind;
-    outs[3] = w.p;
-    outs[4] = w.n;
-    outs[5] = w.z;
-}
-
-fn put_second_shape(s: Shape, outs: &mut [u64; 16]) {
-    let f = s.flavor;
-    let w = words_of(f);
-    outs[6] = s.dims as u64;
-    outs[7] = w.kind;
-    outs[8] = w.p;
-    outs[9] = w.n;
-    outs[10] = w.z;
-}
-
-fn put_answer(r: Answer, outs: &mut [u64; 16]) -> usize {
-    outs[0] = r.number as u64;
-    let s = r.shape;
-    put_shape(s, outs);
-    6
-}
-
-fn put_count(r: Count, outs: &mut [u64; 16]) -> usize {
-    outs[0] = r.number as u64;
-    outs[1] = r.count as u64;
-    2
-}
-
-fn put_product(r: Product, outs: &mut [u64; 16]) -> usize {
-    outs[0] = r.number as u64;
-    let s = r.shape;
-    put_shape(s, outs);
-    outs[6] = r.pairs as u64;
-    7
-}
 
 // Numbers below 2 ^ 16 as an output.
 fn put_masks(masks: &[u16; 512], out: &mut [f64]) {
@@ -266,9 +168,7 @@ fn conform(
 fn get_blade(ins: &[u64; 16], a: &[f64], out: &mut [f64], outs: &mut [u64; 16]) -> usize {
     let r = shape_in(ins).get_blade(ins[5] as usize, a);
     outs[0] = r.number as u64;
-    if 0 < out.len() {
-        out[0] = r.value;
-    }
+    put_first(r.value, out);
     1
 }
 
@@ -402,6 +302,23 @@ fn make_product(
     }
 }
 
+// The number that dimensions, counts and rooms are refused with; and the dimensions that a flavor adds.
+fn make_refusal(op: u64, ins: &[u64; 16], outs: &mut [u64; 16]) -> usize {
+    let d = byte(ins[0]);
+    let e = byte(ins[1]);
+    let i = ins[2] as usize;
+    let j = ins[3] as usize;
+    let k = ins[4] as usize;
+    let f = flavor_in(ins);
+    outs[0] = match op {
+        53 => f.added_dims() as u64,
+        54 => outcome::refusal_of(d, e, i, j, k) as u64,
+        55 => outcome::value_refusal(d, i) as u64,
+        _ => outcome::pair_refusal(d, e, byte(ins[5]), i, j, k) as u64,
+    };
+    1
+}
+
 // The call of a number. How many words come out; 0 for no call.
 pub fn make(
     op: u64,
@@ -425,6 +342,9 @@ pub fn make(
         26 => null_flavor(outs),
         27..=31 => make_product(op, ins, a, b, out, outs),
         32 => promotion(ins, outs),
+        34..=39 | 45 | 49..=50 => values::make_pair(op, ins, a, b, out, outs),
+        33 | 40..=44 | 46..=48 | 51..=52 => values::make_one(op, ins, a, out, right, outs),
+        53..=56 => make_refusal(op, ins, outs),
         _ => 0,
     }
 }

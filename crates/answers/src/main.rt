@@ -2,6 +2,8 @@
 // this folder's `stdin` says how a call is written and how the list was made.
 mod calls;
 mod compare;
+mod shapes;
+mod values;
 mod words;
 
 use libc::STDIN_FILENO;

@@ -31,6 +31,11 @@ fn numbers(line: &mut String, list: &[f64]) {
     words(line, list.iter().map(|x| x.to_bits()));
 }
 
+/// The numbers with one pattern for every NaN, since machines differ in it.
+fn one_nan(list: &[f64]) -> Vec<f64> {
+    list.iter().map(|x| if x.is_nan() { f64::from_bits(0x7ff8 << 48) } else { *x }).collect()
+}
+
 /// The count of its bytes in six hexadecimal digits and a space, then the line.
 pub fn write(to: &mut impl Write, call: &Call, answer: &Answer) -> io::Result<()> {
     let mut line = format!("{:x}", call.op);
@@ -39,8 +44,8 @@ pub fn write(to: &mut impl Write, call: &Call, answer: &Answer) -> io::Result<()
     numbers(&mut line, &call.b);
     line.push_str(&format!(" {:x} {:x}", call.room, call.room_right));
     words(&mut line, answer.words.iter().copied());
-    numbers(&mut line, &answer.out);
-    numbers(&mut line, &answer.right);
+    numbers(&mut line, &one_nan(&answer.out));
+    numbers(&mut line, &one_nan(&answer.right));
     line.push('\n');
     write!(to, "{:06x} {line}", line.len())
 }

@@ -1,4 +1,8 @@
 //! Writes calls with the Rust's answers, a line each, for the program `answers` to replay. See README.md.
+mod arithmetic;
+mod arithmetic_lists;
+mod arithmetic_refused;
+mod corners;
 mod demand;
 mod exact;
 mod line;
@@ -7,6 +11,7 @@ mod masks;
 mod numbers;
 mod product_lists;
 mod products;
+mod refusals;
 mod rules;
 
 use std::io::{self, BufWriter, Write};
@@ -28,10 +33,15 @@ fn wrong(mut a: line::Answer, kind: u64) -> line::Answer {
 
 /// What comes out of a call.
 fn answer(c: &line::Call) -> line::Answer {
-    if products::ALL.contains(&c.op) { products::answer(c) } else { masks::answer(c) }
+    match c.op {
+        op if products::ALL.contains(&op) => products::answer(c),
+        op if arithmetic::ALL.contains(&op) => arithmetic::answer(c),
+        op if refusals::ALL.contains(&op) => refusals::answer(c),
+        _ => masks::answer(c),
+    }
 }
 
-/// The stored list: some of each call, of few dimensions, and the snap's edges.
+/// The stored list: some of each call, of few dimensions, the snap's edges and the arithmetic's corner cases.
 fn stored(each: &mut impl FnMut(line::Call)) {
     let mut r = numbers::Rng(1);
     each(line::Call { op: masks::NULL_FLAVOR, ..line::Call::default() });
@@ -47,6 +57,19 @@ fn stored(each: &mut impl FnMut(line::Call)) {
         }
     }
     product_lists::finite_edges(each);
+    for op in arithmetic::ALL {
+        for i in 0..120 {
+            let most = if i % 20 == 0 { 3 } else { 1 + i % 5 / 4 };
+            each(arithmetic_lists::random(&mut r, op, most));
+        }
+    }
+    for op in refusals::ALL {
+        for _ in 0..30 {
+            each(refusals::random(&mut r, op));
+        }
+    }
+    refusals::one_by_one(each);
+    corners::all(each);
 }
 
 /// All that is small, then so many of each call from a seed, and the products that `exact` checks.
@@ -54,12 +77,21 @@ fn compared(count: u64, seed: u64, each: &mut impl FnMut(line::Call)) {
     let mut r = numbers::Rng(seed);
     lists::exhaustive(&mut r, each);
     product_lists::exhaustive(&mut r, each);
+    arithmetic_lists::exhaustive(&mut r, each);
+    arithmetic_refused::exhaustive(&mut r, each);
+    refusals::exhaustive(each);
     for _ in 0..count {
         for op in masks::ALL {
             each(lists::random(&mut r, op, 9));
         }
         for op in products::ALL {
             each(product_lists::random(&mut r, op, 9));
+        }
+        for op in arithmetic::ALL {
+            each(arithmetic_lists::random(&mut r, op, 9));
+        }
+        for op in refusals::ALL {
+            each(refusals::random(&mut r, op));
         }
     }
     product_lists::demanded(count, seed, &mut |_, c| each(c));

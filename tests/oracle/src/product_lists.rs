@@ -42,7 +42,7 @@ pub fn few_dims(r: &mut Rng, most: usize) -> u64 {
 }
 
 /// Any small Cl, where the Rust's table for it is small, or one of the few.
-fn flavor(r: &mut Rng, d: u64) -> Words {
+pub fn flavor(r: &mut Rng, d: u64) -> Words {
     match r.below(8) {
         0 if d < 6 => [2, r.below(4) as u64, r.below(5) as u64, r.below(4) as u64],
         1..=2 => VANILLA,
@@ -56,7 +56,7 @@ pub fn many<T>(n: usize, each: impl FnMut() -> T) -> Vec<T> {
 }
 
 /// One place holds 1 or -1, the others a zero.
-fn unit(r: &mut Rng, n: usize) -> Vec<f64> {
+pub fn unit(r: &mut Rng, n: usize) -> Vec<f64> {
     let mut list = many(n, || r.sign() * 0.0);
     if n > 0 {
         list[r.below(n)] = r.sign();
@@ -65,7 +65,7 @@ fn unit(r: &mut Rng, n: usize) -> Vec<f64> {
 }
 
 /// Numbers of a kind that is drawn: anything at all, whole numbers, halves, fractions, mostly zeros, or one special value.
-fn factor(r: &mut Rng, n: usize) -> Vec<f64> {
+pub fn factor(r: &mut Rng, n: usize) -> Vec<f64> {
     match r.below(8) {
         0 => r.numbers(n),
         1..=2 => many(n, || r.multiple(0, 4)),
@@ -184,13 +184,13 @@ fn one_number(each: &mut impl FnMut(Call)) {
 }
 
 /// All lists of n of some values.
-fn all_lists(values: &[f64], n: u32) -> Vec<Vec<f64>> {
+pub fn all_lists(values: &[f64], n: u32) -> Vec<Vec<f64>> {
     let base = values.len();
     (0..base.pow(n)).map(|k| (0..n).map(|i| values[k / base.pow(i) % base]).collect()).collect()
 }
 
 /// Vanilla, Projective and negative.
-const THREE: [Words; 3] = [VANILLA, PROJECTIVE, FLAVORS[3]];
+pub const THREE: [Words; 3] = [VANILLA, PROJECTIVE, FLAVORS[3]];
 
 /// d = 1: every two lists of eight values, and every pair of special values in different places.
 fn two_numbers(each: &mut impl FnMut(Call)) {

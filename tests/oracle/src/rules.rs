@@ -35,7 +35,10 @@ pub fn dims(d: u64) -> Given<()> {
     unless(d > 9, 1)
 }
 pub fn count(list: &[f64], d: u64) -> Given<()> {
-    unless(list.len() != 1 << d, 2)
+    counted(list.len(), d)
+}
+pub fn counted(n: usize, d: u64) -> Given<()> {
+    unless(n != 1 << d, 2)
 }
 pub fn room(room: usize, needed: usize) -> Given<()> {
     unless(room < needed, 3)
@@ -45,17 +48,70 @@ pub fn promotes(f: Flavor, g: Flavor) -> u64 {
     (f == Flavor::Vanilla && g == Flavor::Projective) as u64
 }
 
-/// The two values of a call, and the dimensions that they have when brought together.
-pub fn two_values(c: &Call) -> Given<(Multivector, Multivector, u64)> {
+/// The count is right, and a number after place 0 is not zero.
+fn is_other(d: u64, list: &[f64]) -> bool {
+    d <= 9 && list.len() == 1 << d && list[1..].iter().any(|x| *x != 0.0)
+}
+
+/// Vanilla, d = 2, places 1 and 2 equal to zero, place 3 not.
+pub fn is_planar(m: &Multivector) -> bool {
+    m.flavor == Flavor::Vanilla && matches!(rust::coefs(m), [_, x, y, z] if *x == 0.0 && *y == 0.0 && *z != 0.0)
+}
+
+/// The value of a call that has no output.
+pub fn one_value(c: &Call) -> Given<Multivector> {
+    dims(c.words[0])?;
+    count(&c.a, c.words[0])?;
+    Ok(rust::make(flavor(&c.words[1..]), &c.a))
+}
+
+/// The dimensions of two values brought together: a Vanilla side that meets Projective has one more, the right one where it is
+/// promoted too.
+fn together(c: &Call, both: bool) -> u64 {
     let w = &c.words;
     let (f, g) = (flavor(&w[1..]), flavor(&w[6..]));
+    (w[0] + promotes(f, g)).max(w[5] + both as u64 * promotes(g, f))
+}
+
+/// The two values of a call whose result has n dimensions.
+pub fn given_values(c: &Call, n: u64) -> Given<(Multivector, Multivector)> {
+    let w = &c.words;
     dims(w[0])?;
     dims(w[5])?;
-    let n = (w[0] + promotes(f, g)).max(w[5] + promotes(g, f));
     dims(n)?;
     count(&c.a, w[0])?;
     count(&c.b, w[5])?;
-    Ok((rust::make(f, &c.a), rust::make(g, &c.b), n))
+    Ok((rust::make(flavor(&w[1..]), &c.a), rust::make(flavor(&w[6..]), &c.b)))
+}
+
+/// The two values of a call, and the dimensions that they have when brought together.
+pub fn two_values(c: &Call) -> Given<(Multivector, Multivector, u64)> {
+    let n = together(c, true);
+    let (a, b) = given_values(c, n)?;
+    Ok((a, b, n))
+}
+
+/// The two values of `*`, `+` or `-`: a right side that is scalar, or whose count is wrong, is not promoted.
+pub fn operands(c: &Call) -> Given<(Multivector, Multivector)> {
+    let n = together(c, is_other(c.words[5], &c.b));
+    let given = given_values(c, n)?;
+    room(c.room, 1 << n)?;
+    Ok(given)
+}
+
+/// The two values of `/`: a scalar right side leaves the left's shape, any other is as its inverse in `*`. A planar one counts as
+/// if its inverse were not scalar, and a wrong count leaves the result's dimensions open.
+pub fn quotient(c: &Call) -> Given<(Multivector, Multivector)> {
+    let (d, e) = (c.words[0], c.words[5]);
+    let n = if is_other(e, &c.b) {
+        let right = rust::make(flavor(&c.words[6..]), &c.b);
+        together(c, is_planar(&right) || is_other(e, rust::coefs(&run(|| right.inverted()))))
+    } else {
+        d
+    };
+    let given = given_values(c, n)?;
+    room(c.room, 1 << n)?;
+    Ok(given)
 }
 
 /// The Rust's own result; it is not to panic where a call is not refused.
