@@ -88,13 +88,6 @@ module _ (s t : Shape) (a b : List Float) (room : ℕ) where
   abbrev pub Meets : Type 0
   Meets = Passed (s .dims) (t .dims) (meetingDims s t) (length a) (length b) room
 
-  -- The dimensions that the code found count where the given ones are not refused.
-  pub meeting-tests : (n : ℕ) → (s .dims ≤ 9 → t .dims ≤ 9 → n ≡ meetingDims s t) → refusal (pairTests s t n a b room) ≡ refusal (pairTests s t (meetingDims s t) a b room)
-  meeting-tests n h =
-      later-same (s .dims) _ _
-      (λ l. later-same (t .dims) _ _
-      (λ r. ap (λ (k : ℕ). refusal (tooMany k ∷ wrongCount (length a) (s .dims) ∷ wrongCount (length b) (t .dims) ∷ noRoom room (2 ^ k) ∷ [])) (h l r)))
-
   pub meeting-refused : (n : ℕ) (r : Answer) (out : List Float) → n ≡ refusal (pairTests s t (meetingDims s t) a b room) → (n ≡ 0 → ⊥) → r ≡ answerOf (refusedValue n) → Gives (regressiveProduct s t a b room) r out out
   unfolding regressiveProduct
   meeting-refused n r out e h q = gives-refused (refusal (pairTests s t (meetingDims s t) a b room)) n _ r out e h q

@@ -1,18 +1,18 @@
 -- Duals and the regressive product. Assumes nothing.
+use mathlib.Core.Bool.{true}
 use mathlib.Core.List.{List, [], _∷_}
-use Prim.Native.Nat.{ℕ, _+_, max}
+use Prim.Native.Nat.{ℕ}
 use lib.Ieee.{Float, binary64}
 use lib.ListN.{length}
 use Rattle.masks.specs.declared.flavor.Flavor.the-variants.{Vanilla}
 use Rattle.masks.specs.declared.shape.Shape.{Shape}
 use Rattle.masks.specs.Outcome.{Outcome, refusal, unless, refusedValue, shapeOf}
-use Rattle.masks.specs.Shapes.{promotes}
 use Rattle.masks.specs.Build.{atGrade}
 use Rattle.product.specs.declared.mode.Mode.the-variants.{All}
 use Rattle.product.specs.Pairwise.{product}
 use Rattle.product.specs.Products.{outerProduct}
 use Rattle.arithmetic.specs.Kept.{unit, kept}
-use Rattle.arithmetic.specs.Operators.{pairTests, withCoefs, multiply}
+use Rattle.arithmetic.specs.Operators.{pairTests, joinedDims, withCoefs, multiply}
 
 -- Room for any value: none has more numbers.
 abbrev pub ample : ℕ
@@ -38,7 +38,7 @@ antidual s = kept (antidualOf (s .dims)) s
 
 -- The dimensions that two values meet in, scalar or not.
 abbrev pub meetingDims : Shape → Shape → ℕ
-meetingDims s t = max (s .dims + promotes (s .flavor) (t .flavor)) (t .dims + promotes (t .flavor) (s .flavor))
+meetingDims s t = joinedDims s t true
 
 -- `regressive_product` duals each at its own dimensions first; then the outer product, and its antidual.
 unfoldable pub regressiveProduct : Shape → Shape → List Float → List Float → ℕ → Outcome

@@ -25,10 +25,13 @@ pairTests s t n a b room =
 unfoldable pub isOther : Shape → List Float → Bool
 isOther t b = eqb (length b) (2 ^ t .dims) && not (isScalar b)
 
--- The dimensions of the result: a Vanilla value that meets Projective is promoted, on the right only where it is not scalar.
+-- The dimensions that two values meet in: a Vanilla value that meets Projective is promoted, on the right only where `other` says so.
+abbrev pub joinedDims : Shape → Shape → Bool → ℕ
+joinedDims s t other = max (s .dims + promotes (s .flavor) (t .flavor)) (t .dims + cond other (promotes (t .flavor) (s .flavor)) 0)
+
+-- The dimensions of the result: on the right a scalar is not promoted.
 unfoldable pub resultDims : Shape → Shape → List Float → ℕ
-resultDims s t b =
-    max (s .dims + promotes (s .flavor) (t .flavor)) (t .dims + cond (isOther t b) (promotes (t .flavor) (s .flavor)) 0)
+resultDims s t b = joinedDims s t (isOther t b)
 
 unfoldable pub operatorRefusal : Shape → Shape → List Float → List Float → ℕ → ℕ
 operatorRefusal s t a b room = refusal (pairTests s t (resultDims s t b) a b room)

@@ -1,17 +1,15 @@
 // Duals and the regressive product.
+use super::operators::joined_refusal;
 use super::operators::mul;
 use masks::build::pseudoscalar;
 use masks::flavor::Flavor;
 use masks::order::blade_count;
 use masks::outcome::Answer;
 use masks::outcome::DONE;
-use masks::outcome::MAX_DIMS;
 use masks::outcome::done;
-use masks::outcome::pair_refusal;
 use masks::outcome::refusal_of;
 use masks::outcome::refused;
 use masks::shape::Shape;
-use masks::shape::promotion;
 use product::multiply::general_product;
 use product::multiply::outer_product;
 ghost use mathlib.Core.Path.{_≡_};
@@ -75,23 +73,6 @@ pub fn antidual(shape: Shape, a: &[f64], out: &mut [f64]) -> Answer
     done(shape)
 }
 
-// The dimensions that two values meet in; 10, which is refused, where given ones are above 9.
-fn meeting_dims(left: Shape, right: Shape) -> u8
-    ensures { λ r. ⌜ (left .dims ≤ 9 → right .dims ≤ 9 → r ≡ meetingDims left right) ⌝ }
-{
-    if MAX_DIMS < left.dims {
-        return 10;
-    }
-    if MAX_DIMS < right.dims {
-        return 10;
-    }
-    let own = left.flavor;
-    let theirs = right.flavor;
-    let up = left.dims + promotion(own, theirs);
-    let up_right = right.dims + promotion(theirs, own);
-    if up < up_right { up_right } else { up }
-}
-
 // The antidual of the outer product of the duals, each at its own dimensions.
 fn put_regressive(left: Shape, right: Shape, a: &[f64], b: &[f64], out: &mut [f64]) -> Answer
     requires { ⌜ (left .dims ≤ 9) × (right .dims ≤ 9) × (meetingDims left right ≤ 9) ⌝ }
@@ -120,8 +101,7 @@ pub fn regressive_product(
 ) -> Answer
     ensures { λ r. ⌜ Gives (regressiveProduct left right (now (a .entry)) (now (b .entry)) (length (now (out .entry)))) r (now (out .entry)) (now (out .exit)) ⌝ }
 {
-    let n = meeting_dims(left, right);
-    let no = pair_refusal(left.dims, right.dims, n, a.len(), b.len(), out.len());
+    let no = joined_refusal(left, right, true, a, b, out.len());
     if no != DONE {
         return refused(no);
     }

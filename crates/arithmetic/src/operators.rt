@@ -14,14 +14,14 @@ use masks::shape::Shape;
 use masks::shape::promotion;
 use product::multiply::general_product;
 ghost use mathlib.Core.Path.{_≡_};
-ghost use Prim.Native.Nat.{_^_, _≤_};
+ghost use Prim.Native.Nat.{_≤_};
 ghost use lib.ListN.{length, take};
-ghost use Rattle.masks.specs.Outcome.{Gives, laid};
+ghost use Rattle.masks.specs.Outcome.{Gives, laid, refusal};
 ghost use Rattle.masks.specs.Shapes.{conformTo, conform};
 ghost use Rattle.product.specs.Products.{generalProduct};
 ghost use Rattle.arithmetic.specs.declared.operators.Sum.the-variants.{Plus, Minus};
 ghost use Rattle.arithmetic.specs.Kept.{scaled};
-ghost use Rattle.arithmetic.specs.Operators.{isOther, resultDims, operatorRefusal, withCoefs, multiply, summed, summedAt0, summedEach, summedPair, addition};
+ghost use Rattle.arithmetic.specs.Operators.{pairTests, isOther, joinedDims, operatorRefusal, withCoefs, multiply, summed, summedAt0, summedEach, summedPair, addition};
 
 // A sum or a difference.
 pub enum Sum {
@@ -30,16 +30,16 @@ pub enum Sum {
 }
 
 // Whether a value has the numbers of its dimensions and is not scalar.
-pub(crate) fn is_other(shape: Shape, b: &[f64]) -> bool
-    requires { ⌜ shape .dims ≤ 9 ⌝ }
-    ensures { λ r. ⌜ r ≡ isOther shape (now (b .entry)) ⌝ }
+fn is_other(shape: Shape, b: &[f64]) -> bool
+    ensures { λ r. ⌜ (shape .dims ≤ 9 → r ≡ isOther shape (now (b .entry))) ⌝ }
 {
     b.len() == blade_count(shape.dims) && !is_scalar(b)
 }
 
-// The dimensions of the result; 10, which is refused, where given ones are above 9.
-pub(crate) fn result_dims(left: Shape, right: Shape, b: &[f64]) -> u8
-    ensures { λ r. ⌜ (left .dims ≤ 9 → right .dims ≤ 9 → r ≡ resultDims left right (now (b .entry))) ⌝ }
+// The dimensions that two values meet in, the right one promoted only where `other` says so; 10, which is refused, where
+// given ones are above 9.
+fn joined_dims(left: Shape, right: Shape, other: bool) -> u8
+    ensures { λ r. ⌜ (left .dims ≤ 9 → right .dims ≤ 9 → r ≡ joinedDims left right other) ⌝ }
 {
     if MAX_DIMS < left.dims {
         return 10;
@@ -50,7 +50,7 @@ pub(crate) fn result_dims(left: Shape, right: Shape, b: &[f64]) -> u8
     let own = left.flavor;
     let theirs = right.flavor;
     let up = left.dims + promotion(own, theirs);
-    let up_right = if is_other(right, b) {
+    let up_right = if other {
         right.dims + promotion(theirs, own)
     } else {
         right.dims
@@ -58,12 +58,26 @@ pub(crate) fn result_dims(left: Shape, right: Shape, b: &[f64]) -> u8
     if up < up_right { up_right } else { up }
 }
 
+// The number that a call on two values that meet so is refused with, or 0.
+pub(crate) fn joined_refusal(
+    left: Shape,
+    right: Shape,
+    other: bool,
+    a: &[f64],
+    b: &[f64],
+    room: usize,
+) -> u8
+    ensures { λ r. ⌜ r ≡ refusal (pairTests left right (joinedDims left right other) (now (a .entry)) (now (b .entry)) room) ⌝ }
+{
+    let n = joined_dims(left, right, other);
+    pair_refusal(left.dims, right.dims, n, a.len(), b.len(), room)
+}
+
 // The number that an operator is refused with, or 0.
 pub(crate) fn operator_refusal(left: Shape, right: Shape, a: &[f64], b: &[f64], room: usize) -> u8
     ensures { λ r. ⌜ r ≡ operatorRefusal left right (now (a .entry)) (now (b .entry)) room ⌝ }
 {
-    let n = result_dims(left, right, b);
-    pair_refusal(left.dims, right.dims, n, a.len(), b.len(), room)
+    joined_refusal(left, right, is_other(right, b), a, b, room)
 }
 
 // The left side conformed, and each coefficient multiplied by f.

@@ -121,13 +121,13 @@ fn powi(exponent: i32, v: &Values, count: usize) {
 fn main() {
     println!("call                          d    count  the Rust, ns  the port, ns  ratio");
     for dims in 2..=6u8 {
-        let count = if dims <= 4 { 100_000 } else { 100_000 >> (2 * (dims - 4)) };
+        let count = if dims <= 4 { 20_000 } else { 20_000 >> (2 * (dims - 4)) };
         let (dense, scalar, vector) = (values(dims, 1 << dims), values(dims, 1), values(dims, 1 + dims as usize));
         product(&dense, count);
         times("* by a value", &dense, &dense, count);
-        times("* by a scalar", &dense, &scalar, 100_000);
-        reverse(&dense, 100_000);
-        inverted("inverse of a scalar", &scalar, 100_000);
+        times("* by a scalar", &dense, &scalar, 20_000);
+        reverse(&dense, 20_000);
+        inverted("inverse of a scalar", &scalar, 20_000);
         inverted("inverse of scalar and vector", &vector, count);
         inverted("inverse where there is none", &dense, count);
         for exponent in [2, 3, 5, 7, -1, -3] {

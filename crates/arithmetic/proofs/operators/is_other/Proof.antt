@@ -15,15 +15,11 @@ is-scalar-requires c κs = search needs
 
 returns : tie.Need-returns
 unfolding isOther
-returns c =
-    let b = c .before .before in
-    rw (c .is-scalar .ensures, eq-eqb _ _ (c .before .if1 .taken ∙ b .blade-count .ensures ∙ count-small _ (b .before .before .pre)))
+returns c small = rw (c .is-scalar .ensures, eq-eqb _ _ (c .before .if1 .taken ∙ c .before .before .blade-count .ensures ∙ count-small _ small))
 
 returns-2 : tie.Need-returns-2
 unfolding isOther
-returns-2 c =
-    let b = c .before in
-    rw (ne-eqb _ _ (c .if1 .left), ne-eqb _ _ (λ e. c .if1 .left (e ∙ sym (b .blade-count .ensures ∙ count-small _ (b .before .before .pre)))))
+returns-2 c small = rw (ne-eqb _ _ (c .if1 .left), ne-eqb _ _ (λ e. c .if1 .left (e ∙ sym (c .before .blade-count .ensures ∙ count-small _ small))))
 
 pub is-other-spec : {M : Type 1} → statement M
 is-other-spec = tie.close (tie.spec blade-count-requires is-scalar-requires returns returns-2)

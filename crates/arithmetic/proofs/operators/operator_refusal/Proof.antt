@@ -1,32 +1,35 @@
--- `arithmetic::operators::operator_refusal` meets its contract: where given dimensions are refused, the resulting ones do not count. Assumes nothing.
+-- `arithmetic::operators::operator_refusal` meets its contract: where the right's dimensions are refused, it does not count whether it is scalar. Assumes nothing.
 use mathlib.Core.Path.{_≡_, ap, _∙_}
-use mathlib.Core.List.{[], _∷_}
+use mathlib.Core.Bool.{Bool}
+use mathlib.Core.List.{List, [], _∷_}
 use Prim.Native.Nat.{ℕ, _^_, _≤_}
+use borrow.Author.Needs.{needs}
+use lib.Ieee.{Float}
 use lib.ListN.{length}
+use Rattle.masks.specs.declared.shape.Shape.{Shape}
 use Rattle.masks.specs.Outcome.{refusal, tooMany, wrongCount, noRoom}
 use Rattle.masks.proofs.RefusalLaws.{later-same}
-use Rattle.masks.proofs.ChangeLaws.{pairTests}
-use Rattle.arithmetic.specs.Operators.{operatorRefusal}
-use borrow.Author.Needs.{needs}
+use Rattle.arithmetic.specs.Operators.{pairTests, isOther, joinedDims, resultDims, operatorRefusal}
 use Rattle.arithmetic.proofs.operators.operator_refusal.Statement.{statement}
 use Rattle.arithmetic.proofs.operators.operator_refusal.Tie as tie
 
-result-dims-requires : tie.Need-result-dims-requires
-result-dims-requires c κs = search needs
+is-other-requires : tie.Need-is-other-requires
+is-other-requires c κs = search needs
 
-pair-refusal-requires : tie.Need-pair-refusal-requires
-pair-refusal-requires c κs = search needs
+joined-refusal-requires : tie.Need-joined-refusal-requires
+joined-refusal-requires c κs = search needs
 
--- Where the given dimensions of either are refused, the resulting ones do not count.
-tests-same : (k d e n m count countRight room : ℕ) → k ≡ refusal (pairTests d e n count countRight room) → (d ≤ 9 → e ≤ 9 → n ≡ m) → k ≡ refusal (pairTests d e m count countRight room)
-tests-same k d e n m count countRight room q h =
-    q ∙ later-same d _ _ (λ l. later-same e _ _ (λ r. ap (λ (k : ℕ). refusal (tooMany k ∷ wrongCount count d ∷ wrongCount countRight e ∷ noRoom room (2 ^ k) ∷ [])) (h l r)))
+numbered : (s t : Shape) (other : Bool) (a b : List Float) (room : ℕ) → (t .dims ≤ 9 → other ≡ isOther t b) → refusal (pairTests s t (joinedDims s t other) a b room) ≡ operatorRefusal s t a b room
+unfolding operatorRefusal resultDims
+numbered s t other a b room h =
+    later-same (s .dims) _ _
+    (λ l. later-same (t .dims) _ _
+    (λ r. ap (λ (x : Bool). refusal (tooMany (joinedDims s t x) ∷ wrongCount (length a) (s .dims) ∷ wrongCount (length b) (t .dims) ∷ noRoom room (2 ^ joinedDims s t x) ∷ [])) (h r)))
 
 returns : tie.Need-returns
-unfolding operatorRefusal
 returns c =
     let a = c .before .before .before .before .args in
-    tests-same (c .pair-refusal .result) (a .left .dims) (a .right .dims) (c .before .result-dims .result) _ (length (a .a .now)) (length (a .b .now)) (a .room) (c .pair-refusal .ensures) (c .before .result-dims .ensures)
+    c .joined-refusal .ensures ∙ numbered (a .left) (a .right) (c .before .is-other .result) (a .a .now) (a .b .now) (a .room) (c .before .is-other .ensures)
 
 pub operator-refusal-spec : {M : Type 1} → statement M
-operator-refusal-spec = tie.close (tie.spec result-dims-requires pair-refusal-requires returns)
+operator-refusal-spec = tie.close (tie.spec is-other-requires joined-refusal-requires returns)
