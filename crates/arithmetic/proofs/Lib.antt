@@ -11,3 +11,4 @@ pub mod TimesLaws
 pub mod TimesExamples
 pub mod ComparisonLaws
 pub mod Table
+pub mod Lowest

@@ -173,8 +173,8 @@ fn add_values(op: Sum, left: Shape, right: Shape, a: &[f64], b: &[f64], out: &mu
     if no != DONE {
         return refused(no);
     }
-    let test = test_of(right, b);
-    match test {
+    let kind = test_of(right, b);
+    match kind {
         ScalarTest::Scalar(f) => add_scalar(op, left, right, f, a, out),
         ScalarTest::Planar(_) => add_other(op, left, right, a, b, out),
         ScalarTest::Neither => add_other(op, left, right, a, b, out),

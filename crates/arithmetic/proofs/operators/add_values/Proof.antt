@@ -51,8 +51,8 @@ unrefused c = sym (c .before .operator-refusal .ensures) ∙ c .if1 .left
 test-of-requires : tie.Need-test-of-requires
 test-of-requires c κs = operator-passed _ _ _ _ _ (unrefused c) .countedRight
 
-enum-known-test : tie.Need-enum-known-test
-enum-known-test c = search needs
+enum-known-kind : tie.Need-enum-known-kind
+enum-known-kind c = search needs
 
 add-scalar-requires : tie.Need-add-scalar-requires
 add-scalar-requires c κs = search needs
@@ -77,7 +77,7 @@ unfolding ifScalar
 returns-2 c =
     let t = c .before .before .before .before .before in
     let q = t .before .before in
-    by _ _ _ _ _ _ (unrefused (q .before)) (Scalar (t .test .given .0 .0)) (c .before .before .add-scalar .result) _ _ (sym (q .test-of .ensures) ∙ t .test .given .1) (c .before .before .add-scalar .ensures)
+    by _ _ _ _ _ _ (unrefused (q .before)) (Scalar (t .kind .given .0 .0)) (c .before .before .add-scalar .result) _ _ (sym (q .test-of .ensures) ∙ t .kind .given .1) (c .before .before .add-scalar .ensures)
 
 same-length-2 : tie.Need-same-length-2
 same-length-2 c = search needs
@@ -107,7 +107,7 @@ add-values-spec =
     refused-requires
     returns
     test-of-requires
-    enum-known-test
+    enum-known-kind
     add-scalar-requires
     enum-told
     add-other-requires
