@@ -59,7 +59,7 @@ pub struct Number {
 }
 
 // A shape made anew.
-pub(crate) fn shape_of(dims: u8, flavor: Flavor) -> Shape
+pub fn shape_of(dims: u8, flavor: Flavor) -> Shape
     ensures { λ r. ⌜ r ≡ shapeOf dims flavor ⌝ }
 {
     Shape { dims, flavor }
