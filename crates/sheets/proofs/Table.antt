@@ -1,0 +1,21 @@
+-- Document 01's worked table: its starred lines, those of the crates below, and the sheet line, in one table with one proof, which computes the sheet line. Assumes nothing.
+use mathlib.Core.Path.{_≡_, refl}
+use mathlib.Core.List.{[], _∷_}
+use Rattle.masks.specs.declared.flavor.Flavor.the-variants.{Vanilla}
+use Rattle.masks.specs.Outcome.{refusal, unless, shapeOf}
+use Rattle.masks.specs.Text.{same}
+use lib.Ieee.{binary64, toBits}
+use Rattle.arithmetic.proofs.Table as Arithmetic
+use Rattle.arithmetic.specs.Kept.{unit}
+use Rattle.sheets.specs.Bytes.{littleEndian, number, allBytes, section, parts}
+use Rattle.sheets.specs.Format.{sheetBytes, anyAboveNine, bladesOf}
+use Rattle.sheets.specs.Reading.{shapeFrom, said, isSheetBytes, aSheet, readSheet}
+
+pub record Rows : Type 0 where
+  pub starred : Arithmetic.Rows
+  pub written : sheetBytes (record { shapes = shapeOf 0 Vanilla ∷ []; patterns = toBits binary64 unit ∷ [] }) ≡ 1 ∷ 0 ∷ 0 ∷ 0 ∷ 0 ∷ 0 ∷ 0 ∷ 1 ∷ 0 ∷ 0 ∷ 0 ∷ 0 ∷ 0 ∷ 0 ∷ 0 ∷ 0 ∷ 0 ∷ 240 ∷ 63 ∷ []
+  pub read : readSheet (1 ∷ 0 ∷ 0 ∷ 0 ∷ 0 ∷ 0 ∷ 0 ∷ 1 ∷ 0 ∷ 0 ∷ 0 ∷ 0 ∷ 0 ∷ 0 ∷ 0 ∷ 0 ∷ 0 ∷ 240 ∷ 63 ∷ []) 1 ≡ aSheet (record { shapes = shapeOf 0 Vanilla ∷ []; patterns = toBits binary64 unit ∷ [] })
+
+pub table : Rows
+unfolding sheetBytes section littleEndian allBytes toBits readSheet isSheetBytes said shapeFrom number parts anyAboveNine bladesOf refusal unless same
+table = record { starred = Arithmetic.table; written = refl; read = refl }

@@ -1,0 +1,97 @@
+-- Where the writer refuses, and that it writes the sheet's bytes: its tests one after the other, and its parts one after the other. Assumes nothing.
+use mathlib.Core.Path.{_≡_, refl, sym, ap, _∙_}
+use mathlib.Core.Bool.{Bool, true, false, cond}
+use mathlib.Core.Logic.{⊎-elim}
+use mathlib.Core.List.{List, [], _∷_, _++_}
+use Prim.Native.Nat.{ℕ, _+_, _*_, _≤_, _<_, min}
+use native.Mathlib.Omega.{arith}
+use lib.ListN.{length, take, length-append}
+use lib.Seq.{length-take-le, take-all, sets}
+use borrow.Author.Tests.{ltb-false}
+use Rattle.masks.specs.declared.shape.Shape.{Shape}
+use Rattle.masks.specs.Outcome.{Test, laid, refusal, noRoom}
+use Rattle.masks.proofs.ListLaws.{split, sets-laid}
+use Rattle.masks.proofs.RefusalLaws.{past}
+use Rattle.masks.proofs.TextLaws.{sets-more}
+use Rattle.sheets.specs.declared.shapes.Shapes.{Shapes}
+use Rattle.sheets.specs.Bytes.{littleEndian, allBytes, section}
+use Rattle.sheets.specs.Format.{shapeBytes, patternBytes, sheetBytes, limits}
+use Rattle.sheets.specs.Writing.{listedShapes, sheetOf}
+use Rattle.sheets.proofs.BytesLaws.{littleEndian-length, allBytes-length}
+use Rattle.sheets.proofs.FormatLaws as format
+use Rattle.sheets.proofs.FormatLaws.{Within, shapeBytes-length, sheetBytes-length}
+
+pub listed-length : (s : Shapes) → length (s .held) ≡ 64 → s .count ≤ 64 → length (listedShapes s) ≡ s .count
+listed-length s e h = length-take-le (s .count) (s .held) (omega arith)
+
+-- as many as are held are all that can be listed
+pub listed-most : (s : Shapes) → length (s .held) ≡ 64 → take (min (s .count) 64) (s .held) ≡ listedShapes s
+listed-most s e =
+    ⊎-elim (λ (h : s .count < 64). let n : min (s .count) 64 ≡ s .count = omega arith in ap (λ (k : ℕ). take k (s .held)) n)
+    (λ (h : 64 ≤ s .count). take-all (min (s .count) 64) (s .held) (omega arith) ∙ sym (take-all (s .count) (s .held) (omega arith)))
+    (split (s .count) 64)
+
+-- ---- refusals
+
+-- tests that refuse nothing where more of them refuse nothing
+passed : (ts us : List Test) → refusal (ts ++ us) ≡ 0 → refusal ts ≡ 0
+unfolding refusal
+passed [] us e = refl
+passed (t ∷ ts) us e = go (t .fails) e (passed ts us)
+  where
+    go : (b : Bool) → cond b (t .number) (refusal (ts ++ us)) ≡ 0 → (refusal (ts ++ us) ≡ 0 → refusal ts ≡ 0) → cond b (t .number) (refusal ts) ≡ 0
+    go true q f = q
+    go false q f = f q
+
+-- where tests refuse, the tests after them do not count
+rest-same : (ts us vs : List Test) → (refusal ts ≡ 0 → refusal us ≡ refusal vs) → refusal (ts ++ us) ≡ refusal (ts ++ vs)
+unfolding refusal
+rest-same [] us vs h = h refl
+rest-same (t ∷ ts) us vs h = go (t .fails) h (rest-same ts us vs)
+  where
+    go : (b : Bool) → (cond b (t .number) (refusal ts) ≡ 0 → refusal us ≡ refusal vs) → ((refusal ts ≡ 0 → refusal us ≡ refusal vs) → refusal (ts ++ us) ≡ refusal (ts ++ vs)) → cond b (t .number) (refusal (ts ++ us)) ≡ cond b (t .number) (refusal (ts ++ vs))
+    go true g f = refl
+    go false g f = f g
+
+-- the count of bytes that is tested is that of the sheet's bytes, where the tests before it pass
+pub room-same : (s : Shapes) (xs : List ℕ) (room : ℕ) → length (s .held) ≡ 64 → refusal (limits (s .count) (listedShapes s) (length xs) ++ (noRoom room (6 + 5 * s .count + 8 * length xs) ∷ [])) ≡ refusal (limits (s .count) (listedShapes s) (length xs) ++ (noRoom room (length (sheetBytes (sheetOf s xs))) ∷ []))
+room-same s xs room e =
+    rest-same (limits (s .count) (listedShapes s) (length xs)) _ _
+    (λ p. ap (λ (k : ℕ). refusal (noRoom room k ∷ [])) (size (format.within (s .count) (listedShapes s) (length xs) p .few)))
+  where
+    size : s .count ≤ 64 → 6 + 5 * s .count + 8 * length xs ≡ length (sheetBytes (sheetOf s xs))
+    size h = omega (arith, listed-length s e h, sheetBytes-length (sheetOf s xs))
+
+-- what holds where the writer does not refuse
+pub record Writable (s : Shapes) (xs : List ℕ) (room : ℕ) : Type 0 where
+  pub within : Within (s .count) (listedShapes s) (length xs)
+  pub roomy : 6 + 5 * s .count + 8 * length xs ≤ room
+
+pub writable : (s : Shapes) (xs : List ℕ) (room : ℕ) → refusal (limits (s .count) (listedShapes s) (length xs) ++ (noRoom room (6 + 5 * s .count + 8 * length xs) ∷ [])) ≡ 0 → Writable s xs room
+writable s xs room e =
+    let p = past _ _ (λ z. omega arith) e in
+    let q = past _ _ (λ z. omega arith) (p .1) in
+    let r = past _ _ (λ z. omega arith) (q .1) in
+    let t = past _ _ (λ z. omega arith) (r .1) in
+    record {
+      within = format.within (s .count) (listedShapes s) (length xs) (passed (limits (s .count) (listedShapes s) (length xs)) _ e);
+      roomy = ltb-false _ _ (past _ _ (λ z. omega arith) (t .1) .0);
+    }
+
+-- ---- bytes
+
+-- the four parts, written one after the other, are the sheet
+pub written : (ss : List Shape) (xs out : List ℕ) → 6 + 5 * length ss + 8 * length xs ≤ length out → sets (sets (sets (sets out 0 (littleEndian 2 (length ss))) 2 (allBytes shapeBytes ss)) (2 + 5 * length ss) (littleEndian 4 (length xs))) (6 + 5 * length ss) (allBytes patternBytes xs) ≡ laid (sheetBytes (record { shapes = ss; patterns = xs })) out
+unfolding sheetBytes section
+written ss xs out h =
+    let a = littleEndian 2 (length ss) in
+    let b = allBytes shapeBytes ss in
+    let c = littleEndian 4 (length xs) in
+    let d = allBytes patternBytes xs in
+    let two = littleEndian-length 2 (length ss) in
+    let l = sets (sets out 0 a) 2 b in
+    let e : 2 + 5 * length ss ≡ 0 + length (a ++ b) = omega (arith, length-append a b, two, allBytes-length shapeBytes 5 shapeBytes-length ss) in
+    let f : 6 + 5 * length ss ≡ 2 + 5 * length ss + length c = omega (arith, littleEndian-length 4 (length xs)) in
+    sets-more out (a ++ b) (c ++ d) 0 (2 + 5 * length ss) (sets-more out a b 0 2 refl (omega (arith, two)) refl) e
+    (sets-more l c d (2 + 5 * length ss) (6 + 5 * length ss) refl f refl)
+    ∙ sets-laid (a ++ b ++ (c ++ d)) out (omega (arith, sheetBytes-length (record { shapes = ss; patterns = xs })))

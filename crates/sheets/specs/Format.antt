@@ -1,0 +1,56 @@
+-- The rig sheet: what it holds, and its bytes. Assumes nothing.
+use mathlib.Core.Bool.{Bool, true, false, not, _||_}
+use mathlib.Core.List.{List, [], _∷_, _++_}
+use Prim.Native.Nat.{ℕ, _+_, _^_}
+use lib.Dec.{eqb, ltb}
+use lib.ListN.{length}
+use Rattle.masks.specs.declared.flavor.Flavor.{Flavor}
+use Rattle.masks.specs.declared.flavor.Flavor.the-variants.{Vanilla, Projective, Cl}
+use Rattle.masks.specs.declared.shape.Shape.{Shape}
+use Rattle.masks.specs.Outcome.{Test}
+use Rattle.sheets.specs.Bytes.{littleEndian, section}
+
+-- A sheet has shapes, and their coefficients in shape order, each as its bit pattern.
+pub record Sheet : Type 0 where
+  pub shapes : List Shape
+  pub patterns : List ℕ
+
+-- ---- its bytes
+
+-- Kind 0 Vanilla, 1 Projective or 2 Cl, then p, n, z, zero unless kind 2.
+abbrev pub flavorBytes : Flavor → List ℕ
+flavorBytes Vanilla = 0 ∷ 0 ∷ 0 ∷ 0 ∷ []
+flavorBytes Projective = 1 ∷ 0 ∷ 0 ∷ 0 ∷ []
+flavorBytes (Cl p n z) = 2 ∷ p ∷ n ∷ z ∷ []
+
+-- Each shape has five bytes: dims, then its flavor's.
+abbrev pub shapeBytes : Shape → List ℕ
+shapeBytes s = s .dims ∷ flavorBytes (s .flavor)
+
+-- Each coefficient has eight bytes.
+abbrev pub patternBytes : ℕ → List ℕ
+patternBytes x = littleEndian 8 x
+
+-- Sections in order, each after its count: u16 shapes, u32 coefficients. Nothing follows.
+unfoldable pub sheetBytes : Sheet → List ℕ
+sheetBytes s = section 2 shapeBytes (s .shapes) ++ section 4 patternBytes (s .patterns)
+
+-- ---- its limits
+
+unfoldable pub anyAboveNine : List Shape → Bool
+anyAboveNine [] = false
+anyAboveNine (s ∷ ss) = ltb 9 (s .dims) || anyAboveNine ss
+
+-- The sum of the 2^d.
+unfoldable pub bladesOf : List Shape → ℕ
+bladesOf [] = 0
+bladesOf (s ∷ ss) = 2 ^ s .dims + bladesOf ss
+
+-- The tests of a sheet of n shapes and m coefficients. 1: A dimension is above 9. 2: There are more than 64 shapes or 4,096 coefficients, or there are not as many coefficients as the sum of the 2^d.
+abbrev pub limits : ℕ → List Shape → ℕ → List Test
+limits n ss m =
+    record { fails = anyAboveNine ss; number = 1 } ∷
+    record { fails = ltb 64 n; number = 2 } ∷
+    record { fails = ltb 4096 m; number = 2 } ∷
+    record { fails = not (eqb m (bladesOf ss)); number = 2 } ∷
+    []

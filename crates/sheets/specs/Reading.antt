@@ -1,0 +1,77 @@
+-- Reading a sheet. Assumes nothing.
+use mathlib.Core.Path.{_≡_}
+use mathlib.Core.Bool.{Bool, not, _&&_}
+use mathlib.Core.List.{List, [], _∷_, map}
+use Prim.Native.Nat.{ℕ, zero, suc}
+use lib.Dec.{eqb}
+use lib.ListN.{length, getD, replicate}
+use Rattle.masks.specs.declared.flavor.Flavor.{Flavor}
+use Rattle.masks.specs.declared.flavor.Flavor.the-variants.{Vanilla, Projective, Cl}
+use Rattle.masks.specs.declared.shape.Shape.{Shape}
+use Rattle.masks.specs.Outcome.{Test, refusal, noRoom, unless, shapeOf, laid}
+use Rattle.masks.specs.Text.{same}
+use Rattle.sheets.specs.declared.shapes.Shapes.{Shapes}
+use Rattle.sheets.specs.declared.read.SheetRead.{SheetRead}
+use Rattle.sheets.specs.Bytes.{number, itemsIn, afterSection}
+use Rattle.sheets.specs.Format.{Sheet, sheetBytes, limits}
+
+-- ---- what bytes say
+
+-- Kind 0 is Vanilla, 1 Projective, and any other is taken for Cl.
+abbrev pub flavorFrom : ℕ → ℕ → ℕ → ℕ → Flavor
+flavorFrom zero p n z = Vanilla
+flavorFrom (suc zero) p n z = Projective
+flavorFrom (suc (suc k)) p n z = Cl p n z
+
+unfoldable pub shapeFrom : List ℕ → Shape
+shapeFrom c = shapeOf (getD c 0 0) (flavorFrom (getD c 1 0) (getD c 2 0) (getD c 3 0) (getD c 4 0))
+
+-- `said` is the sheet that bytes would be, by their counts.
+unfoldable pub said : List ℕ → Sheet
+said b = record { shapes = map shapeFrom (itemsIn 2 5 b); patterns = map number (itemsIn 4 8 (afterSection 2 5 b)) }
+
+-- A sheet is within its limits.
+abbrev pub isSheet : Sheet → Bool
+isSheet s = eqb (refusal (limits (length (s .shapes)) (s .shapes) (length (s .patterns)))) 0
+
+-- 9: The bytes are not those of a sheet.
+unfoldable pub isSheetBytes : List ℕ → Bool
+isSheetBytes b = isSheet (said b) && same b (sheetBytes (said b))
+
+abbrev pub malformed : List ℕ → Test
+malformed b = record { fails = not (isSheetBytes b); number = 9 }
+
+-- ---- what the call gives
+
+pub record ReadOutcome : Type 0 where
+  pub number : ℕ
+  pub sheet : Sheet
+
+-- A refusal has its number and no shapes, and writes nothing.
+abbrev pub refusedSheet : ℕ → ReadOutcome
+refusedSheet k = record { number = k; sheet = record { shapes = []; patterns = [] } }
+
+abbrev pub aSheet : Sheet → ReadOutcome
+aSheet s = record { number = 0; sheet = s }
+
+-- 9, then 3.
+unfoldable pub readSheet : List ℕ → ℕ → ReadOutcome
+readSheet b room = unless refusedSheet (refusal (malformed b ∷ noRoom room (length (said b .patterns)) ∷ [])) (aSheet (said b))
+
+-- ---- as the answer
+
+-- A record of shapes holds 64, shape 0 Vanilla past those that are listed.
+unfoldable pub blankShapes : List Shape
+blankShapes = replicate 64 (shapeOf 0 Vanilla)
+
+abbrev pub shapesOf : List Shape → Shapes
+shapesOf ss = record { count = length ss; held = laid ss blankShapes }
+
+-- The answer has the number, the shapes and the count of the patterns; the patterns are in the output.
+abbrev pub readOf : ReadOutcome → SheetRead
+readOf o = record { number = o .number; shapes = shapesOf (o .sheet .shapes); count = length (o .sheet .patterns) }
+
+-- The answer r, and the output before and after, are those of the outcome.
+pub record Reads (o : ReadOutcome) (r : SheetRead) (before after : List ℕ) : Type 0 where
+  pub answered : r ≡ readOf o
+  pub left : after ≡ laid (o .sheet .patterns) before

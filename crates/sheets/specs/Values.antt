@@ -1,0 +1,30 @@
+-- The value at an index of a sheet. Assumes nothing.
+use mathlib.Core.Bool.{not}
+use mathlib.Core.List.{List, [], _∷_}
+use Prim.Native.Nat.{ℕ}
+use lib.Dec.{leb}
+use lib.ListN.{length, take, getD}
+use Rattle.masks.specs.declared.flavor.Flavor.the-variants.{Vanilla}
+use Rattle.masks.specs.declared.shape.Shape.{Shape}
+use Rattle.masks.specs.Outcome.{Test, refusal, unless, shapeOf}
+use Rattle.sheets.specs.declared.shapes.Shapes.{Shapes}
+use Rattle.sheets.specs.declared.shapes.Placed.{Placed}
+use Rattle.sheets.specs.Format.{anyAboveNine, bladesOf}
+use Rattle.sheets.specs.Writing.{listedShapes}
+
+-- Its patterns start after those of the shapes before it.
+abbrev pub startOf : List Shape → ℕ → ℕ
+startOf ss i = bladesOf (take i ss)
+
+-- 1: A dimension is above 9. 2: So many shapes are not listed.
+abbrev pub valueTests : List Shape → ℕ → List Test
+valueTests ss i = record { fails = anyAboveNine ss; number = 1 } ∷ record { fails = leb (length ss) i; number = 2 } ∷ []
+
+-- A refusal has its number, shape 0 Vanilla and 0.
+abbrev pub refusedPlace : ℕ → Placed
+refusedPlace k = record { number = k; shape = shapeOf 0 Vanilla; start = 0 }
+
+unfoldable pub valueAt : Shapes → ℕ → Placed
+valueAt s i =
+    unless refusedPlace (refusal (valueTests (listedShapes s) i))
+    (record { number = 0; shape = getD (listedShapes s) i (shapeOf 0 Vanilla); start = startOf (listedShapes s) i })
