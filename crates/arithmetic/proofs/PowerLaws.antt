@@ -1,6 +1,6 @@
 -- Powers: which inputs are refused, exactly, the shape of the others, and how far the digits go. Assumes nothing.
 use mathlib.Core.Path.{_≡_, refl, sym, ap, _∙_}
-use mathlib.Core.Bool.{Bool, true, false, true≢false, false≢true, _&&_, cond}
+use mathlib.Core.Bool.{Bool, true, false, true≢false, _&&_, cond}
 use mathlib.Core.List.{List, [], _∷_}
 use mathlib.Core.Logic.{_⊎_, inl, inr}
 use Prim.Native.Nat.{ℕ, zero, suc, _+_, _^_, _/_, _%_, _≤_, _<_, max}
@@ -23,6 +23,7 @@ use Rattle.masks.specs.Flavors.{addedDims}
 use Rattle.masks.specs.Outcome.{Test, Outcome, Gives, refusal, tooMany, wrongCount, noRoom, unless, value, refusedValue, laid}
 use Rattle.masks.specs.Shapes.{withDims, setDims, promotes}
 use Rattle.masks.proofs.ChangeLaws.{not-refused}
+use Rattle.masks.proofs.Computed.{both-true}
 use Rattle.masks.proofs.ListLaws.{take-laid}
 use Rattle.masks.proofs.OrderLaws.{blades-le}
 use Rattle.masks.proofs.RefusalLaws.{refused-first, refused-later}
@@ -133,10 +134,6 @@ passes-by k t ts h e = elim (begins k t ts e) [ inl q ↦ absurd (h (q .1)) | in
 -- A test with this number has failed where the rest gives another.
 fails-here : (k : ℕ) (t : Test) (ts : List Test) → (refusal ts ≡ k → ⊥) → refusal (t ∷ ts) ≡ k → t .fails ≡ true
 fails-here k t ts h e = elim (begins k t ts e) [ inl q ↦ q .0 | inr q ↦ absurd (h (q .1)) ]
-
-both-true : (a b : Bool) → (a && b) ≡ true → (a ≡ true) × (b ≡ true)
-both-true true b e = (refl, e)
-both-true false b e = absurd (false≢true e)
 
 pub and-both : {a b : Bool} → a ≡ true → b ≡ true → (a && b) ≡ true
 and-both e f = rw (e, f)

@@ -4,7 +4,6 @@ use mathlib.Core.Bool.{Bool, true, false, cond}
 use mathlib.Core.List.{List, [], _∷_, _++_}
 use Prim.Native.Nat.{ℕ, zero, suc, _^_, _≤_}
 use native.Mathlib.Omega.{arith}
-use lib.Dec.{ltb}
 use lib.Ieee.{Float}
 use borrow.Author.Tests.{ltb-false, eqb-true, not-false}
 use Rattle.masks.specs.declared.outcome.Answer.{Answer}
@@ -43,14 +42,29 @@ taken d n count room needed e =
       roomy = ltb-false _ _ (s .0);
     }
 
--- Where the dimensions are refused, the tests after theirs do not count.
-pub later-same : (d : ℕ) (ts us : List Test) → (d ≤ 9 → refusal ts ≡ refusal us) → refusal (tooMany d ∷ ts) ≡ refusal (tooMany d ∷ us)
+-- tests that refuse nothing where more of them refuse nothing
+pub fewer-pass : (ts us : List Test) → refusal (ts ++ us) ≡ 0 → refusal ts ≡ 0
 unfolding refusal
-later-same d ts us h = go (ltb 9 d) (ltb-false 9 d)
+fewer-pass [] us e = refl
+fewer-pass (t ∷ ts) us e = go (t .fails) e (fewer-pass ts us)
   where
-    go : (b : Bool) → (b ≡ false → d ≤ 9) → cond b 1 (refusal ts) ≡ cond b 1 (refusal us)
-    go true f = refl
-    go false f = h (f refl)
+    go : (b : Bool) → cond b (t .number) (refusal (ts ++ us)) ≡ 0 → (refusal (ts ++ us) ≡ 0 → refusal ts ≡ 0) → cond b (t .number) (refusal ts) ≡ 0
+    go true q f = q
+    go false q f = f q
+
+-- where tests refuse, the tests after them do not count
+pub rest-same : (ts us vs : List Test) → (refusal ts ≡ 0 → refusal us ≡ refusal vs) → refusal (ts ++ us) ≡ refusal (ts ++ vs)
+unfolding refusal
+rest-same [] us vs h = h refl
+rest-same (t ∷ ts) us vs h = go (t .fails) h (rest-same ts us vs)
+  where
+    go : (b : Bool) → (cond b (t .number) (refusal ts) ≡ 0 → refusal us ≡ refusal vs) → ((refusal ts ≡ 0 → refusal us ≡ refusal vs) → refusal (ts ++ us) ≡ refusal (ts ++ vs)) → cond b (t .number) (refusal (ts ++ us)) ≡ cond b (t .number) (refusal (ts ++ vs))
+    go true g f = refl
+    go false g f = f g
+
+-- so it is where the dimensions are refused
+pub later-same : (d : ℕ) (ts us : List Test) → (d ≤ 9 → refusal ts ≡ refusal us) → refusal (tooMany d ∷ ts) ≡ refusal (tooMany d ∷ us)
+later-same d ts us h = rest-same (tooMany d ∷ []) ts us (λ e. h (ltb-false 9 d (past (tooMany d) [] (λ q. omega arith) e .0)))
 
 -- where the dimensions are refused, the numbers that are needed do not count
 pub needed-same : (d n count room needed needed′ : ℕ) → (n ≤ 9 → needed ≡ needed′) → refusal (tooMany d ∷ tooMany n ∷ wrongCount count d ∷ noRoom room needed ∷ []) ≡ refusal (tooMany d ∷ tooMany n ∷ wrongCount count d ∷ noRoom room needed′ ∷ [])
@@ -90,6 +104,12 @@ module _ {ℓ} {A : Type ℓ} (f : ℕ → A) where
   unfolding unless
   unless-done zero n a e h = refl
   unless-done (suc k) n a e h = absurd (omega arith)
+
+-- a call's number is that of the refusal that was worked out
+pub unless-number : {A : Type 0} (n : A → ℕ) (f : ℕ → A) (k : ℕ) (a : A) → n (f k) ≡ k → n a ≡ 0 → n (unless f k a) ≡ k
+unfolding unless
+unless-number n f zero a e z = z
+unless-number n f (suc k) a e z = e
 
 -- a refusal gives its number and leaves the output
 pub gives-refused : (k n : ℕ) (o : Outcome) (r : Answer) (out : List Float) → n ≡ k → (n ≡ 0 → ⊥) → r ≡ answerOf (refusedValue n) → Gives (unless refusedValue k o) r out out

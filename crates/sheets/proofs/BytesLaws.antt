@@ -1,11 +1,11 @@
 -- Laws of numbers as bytes, and of sections. A number is read back by its digits to the base 256, and items by the seams between them. Assumes nothing.
 use mathlib.Core.Path.{_≡_, refl, sym, ap, _∙_}
 use mathlib.Core.List.{List, [], _∷_, _++_, map, append-assoc, append-nil}
-use Prim.Native.Nat.{ℕ, zero, suc, _+_, _*_, _/_, _%_, _^_, _≤_, _<_, suc-le-suc}
+use Prim.Native.Nat.{ℕ, zero, suc, _+_, _*_, _/_, _%_, _^_, _<_, suc-le-suc}
 use native.Mathlib.Nat.{le-of-suc-le-suc, not-suc-le-zero, mul-zero, mul-suc, add-comm, zero-lt-suc, pow-suc, le-of-lt}
 use native.Mathlib.Numerals.{add-one}
 use native.Mathlib.Omega.{arith}
-use lib.ListN.{length, getD, take, drop, length-append, length-drop}
+use lib.ListN.{length, getD, take, drop, length-append}
 use lib.Seq.{sets, drop-cons, getD-drop, drop-drop, take-add, take-at, drop-at, take-suc, length-take-le}
 use Rattle.masks.proofs.ListLaws.{getD-map, sets-append}
 use Rattle.sheets.specs.Bytes.{littleEndian, number, allBytes, section, parts, countIn, itemsIn, afterSection}

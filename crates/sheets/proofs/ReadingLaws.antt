@@ -13,6 +13,7 @@ use Rattle.masks.specs.declared.flavor.Flavor.the-variants.{Vanilla}
 use Rattle.masks.specs.declared.shape.Shape.{Shape}
 use Rattle.masks.specs.Outcome.{refusal, unless, shapeOf}
 use Rattle.masks.specs.Text.{same}
+use Rattle.masks.proofs.Computed.{both-true}
 use Rattle.masks.proofs.ListLaws.{getD-map}
 use Rattle.sheets.specs.declared.read.SheetRead.{SheetRead}
 use Rattle.sheets.specs.Bytes.{littleEndian, number, section, parts, countIn, itemsIn, afterSection}
@@ -56,10 +57,6 @@ truly false h = absurd (h refl)
 falsely : (t : Bool) → (t ≡ true → ⊥) → t ≡ false
 falsely true h = absurd (h refl)
 falsely false h = refl
-
-both-true : (s t : Bool) → (s && t) ≡ true → (s ≡ true) × (t ≡ true)
-both-true true t e = (refl, e)
-both-true false t e = absurd (false≢true e)
 
 -- ---- one shape after the other
 

@@ -10,16 +10,16 @@ use lib.ListN.{length, getD, take, drop, length-take}
 use borrow.Author.Tests.{le-ltb, eq-eqb, not-false}
 use Rattle.masks.specs.declared.flavor.Flavor.the-variants.{Vanilla}
 use Rattle.masks.specs.declared.shape.Shape.{Shape}
-use Rattle.masks.specs.Outcome.{refusal, noRoom, unless, shapeOf, laid, Written, refusedList, listed, countOf, Writes}
+use Rattle.masks.specs.Outcome.{refusal, noRoom, unless, shapeOf, laid, Written, refusedList, listed, Writes}
 use Rattle.masks.specs.declared.outcome.Count.{Count}
 use Rattle.sheets.specs.declared.read.SheetRead.{SheetRead}
 use Rattle.masks.specs.Text.{same}
 use Rattle.masks.proofs.ListLaws.{split, take-laid}
-use Rattle.masks.proofs.RefusalLaws.{past, unless-done}
+use Rattle.masks.proofs.RefusalLaws.{past, unless-done, unless-number}
 use Rattle.sheets.specs.declared.shapes.Shapes.{Shapes}
 use Rattle.sheets.specs.Bytes.{number, section, parts, itemsIn, afterSection}
 use Rattle.sheets.specs.Format.{Sheet, shapeBytes, patternBytes, sheetBytes, bladesOf, limits}
-use Rattle.sheets.specs.Reading.{shapeFrom, said, isSheet, isSheetBytes, malformed, ReadOutcome, readSheet, aSheet, refusedSheet, blankShapes, shapesOf, readOf, Reads}
+use Rattle.sheets.specs.Reading.{shapeFrom, said, isSheet, isSheetBytes, malformed, ReadOutcome, readSheet, aSheet, refusedSheet, blankShapes, shapesOf, Reads}
 use Rattle.sheets.specs.Writing.{listedShapes, sheetOf, writeSheet}
 use Rattle.sheets.specs.Checks.{checked}
 use Rattle.sheets.proofs.BytesLaws.{AreBytes, littleEndian-length, number-littleEndian, number-lt, take-bytes, drop-bytes, items-section, after-section}
@@ -33,12 +33,6 @@ abbrev pub ArePatterns : List ℕ → Type 0
 ArePatterns xs = (i : ℕ) → getD xs i 0 < 2 ^ 64
 
 -- ---- the numbers that are given
-
--- a call's number is that of the refusal that was worked out
-unless-number : {A : Type 0} (n : A → ℕ) (f : ℕ → A) (k : ℕ) (a : A) → n (f k) ≡ k → n a ≡ 0 → n (unless f k a) ≡ k
-unfolding unless
-unless-number n f zero a e z = z
-unless-number n f (suc k) a e z = e
 
 -- equal outcomes have one number
 number-same : {o p : ReadOutcome} {n : ℕ} → o ≡ p → o .number ≡ n → p .number ≡ n

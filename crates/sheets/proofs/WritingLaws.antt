@@ -1,6 +1,5 @@
 -- Where the writer refuses, and that it writes the sheet's bytes: its tests one after the other, and its parts one after the other. Assumes nothing.
 use mathlib.Core.Path.{_≡_, refl, sym, ap, _∙_}
-use mathlib.Core.Bool.{Bool, true, false, cond}
 use mathlib.Core.Logic.{⊎-elim}
 use mathlib.Core.List.{List, [], _∷_, _++_}
 use Prim.Native.Nat.{ℕ, _+_, _*_, _≤_, _<_, min}
@@ -9,9 +8,9 @@ use lib.ListN.{length, take, length-append}
 use lib.Seq.{length-take-le, take-all, sets}
 use borrow.Author.Tests.{ltb-false}
 use Rattle.masks.specs.declared.shape.Shape.{Shape}
-use Rattle.masks.specs.Outcome.{Test, laid, refusal, noRoom}
+use Rattle.masks.specs.Outcome.{laid, refusal, noRoom}
 use Rattle.masks.proofs.ListLaws.{split, sets-laid}
-use Rattle.masks.proofs.RefusalLaws.{past}
+use Rattle.masks.proofs.RefusalLaws.{past, fewer-pass, rest-same}
 use Rattle.masks.proofs.TextLaws.{sets-more}
 use Rattle.sheets.specs.declared.shapes.Shapes.{Shapes}
 use Rattle.sheets.specs.Bytes.{littleEndian, allBytes, section}
@@ -32,26 +31,6 @@ listed-most s e =
     (split (s .count) 64)
 
 -- ---- refusals
-
--- tests that refuse nothing where more of them refuse nothing
-passed : (ts us : List Test) → refusal (ts ++ us) ≡ 0 → refusal ts ≡ 0
-unfolding refusal
-passed [] us e = refl
-passed (t ∷ ts) us e = go (t .fails) e (passed ts us)
-  where
-    go : (b : Bool) → cond b (t .number) (refusal (ts ++ us)) ≡ 0 → (refusal (ts ++ us) ≡ 0 → refusal ts ≡ 0) → cond b (t .number) (refusal ts) ≡ 0
-    go true q f = q
-    go false q f = f q
-
--- where tests refuse, the tests after them do not count
-rest-same : (ts us vs : List Test) → (refusal ts ≡ 0 → refusal us ≡ refusal vs) → refusal (ts ++ us) ≡ refusal (ts ++ vs)
-unfolding refusal
-rest-same [] us vs h = h refl
-rest-same (t ∷ ts) us vs h = go (t .fails) h (rest-same ts us vs)
-  where
-    go : (b : Bool) → (cond b (t .number) (refusal ts) ≡ 0 → refusal us ≡ refusal vs) → ((refusal ts ≡ 0 → refusal us ≡ refusal vs) → refusal (ts ++ us) ≡ refusal (ts ++ vs)) → cond b (t .number) (refusal (ts ++ us)) ≡ cond b (t .number) (refusal (ts ++ vs))
-    go true g f = refl
-    go false g f = f g
 
 -- the count of bytes that is tested is that of the sheet's bytes, where the tests before it pass
 pub room-same : (s : Shapes) (xs : List ℕ) (room : ℕ) → length (s .held) ≡ 64 → refusal (limits (s .count) (listedShapes s) (length xs) ++ (noRoom room (6 + 5 * s .count + 8 * length xs) ∷ [])) ≡ refusal (limits (s .count) (listedShapes s) (length xs) ++ (noRoom room (length (sheetBytes (sheetOf s xs))) ∷ []))
@@ -74,7 +53,7 @@ writable s xs room e =
     let r = past _ _ (λ z. omega arith) (q .1) in
     let t = past _ _ (λ z. omega arith) (r .1) in
     record {
-      within = format.within (s .count) (listedShapes s) (length xs) (passed (limits (s .count) (listedShapes s) (length xs)) _ e);
+      within = format.within (s .count) (listedShapes s) (length xs) (fewer-pass (limits (s .count) (listedShapes s) (length xs)) _ e);
       roomy = ltb-false _ _ (past _ _ (λ z. omega arith) (t .1) .0);
     }
 

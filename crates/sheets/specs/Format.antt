@@ -1,9 +1,8 @@
 -- The rig sheet: what it holds, and its bytes. Assumes nothing.
-use mathlib.Core.Bool.{Bool, true, false, not, _||_}
+use mathlib.Core.Bool.{Bool, false, not, _||_}
 use mathlib.Core.List.{List, [], _∷_, _++_}
 use Prim.Native.Nat.{ℕ, _+_, _^_}
 use lib.Dec.{eqb, ltb}
-use lib.ListN.{length}
 use Rattle.masks.specs.declared.flavor.Flavor.{Flavor}
 use Rattle.masks.specs.declared.flavor.Flavor.the-variants.{Vanilla, Projective, Cl}
 use Rattle.masks.specs.declared.shape.Shape.{Shape}

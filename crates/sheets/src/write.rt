@@ -14,7 +14,7 @@ use masks::outcome::TOO_MANY_DIMS;
 use masks::outcome::WRONG_COUNT;
 use masks::shape::Shape;
 ghost use mathlib.Core.Path.{_≡_};
-ghost use mathlib.Core.List.{List, [], _∷_, _++_};
+ghost use mathlib.Core.List.{[], _∷_, _++_};
 ghost use Prim.Native.Nat.{_+_, _*_, _≤_};
 ghost use lib.ListN.{length, take};
 ghost use lib.Seq.{sets};
