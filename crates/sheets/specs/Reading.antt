@@ -34,10 +34,11 @@ said b = record { shapes = map shapeFrom (itemsIn 2 5 b); patterns = map number 
 abbrev pub isSheet : Sheet → Bool
 isSheet s = eqb (refusal (limits (length (s .shapes)) (s .shapes) (length (s .patterns)))) 0
 
--- 9: The bytes are not those of a sheet.
+-- Bytes are a sheet's where they are those of the sheet that they say, and it is within its limits.
 unfoldable pub isSheetBytes : List ℕ → Bool
 isSheetBytes b = isSheet (said b) && same b (sheetBytes (said b))
 
+-- 9: The bytes are no sheet's.
 abbrev pub malformed : List ℕ → Test
 malformed b = record { fails = not (isSheetBytes b); number = 9 }
 
