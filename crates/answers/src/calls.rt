@@ -91,6 +91,18 @@ fn null_flavor(outs: &mut [u64; 16]) -> usize {
     4
 }
 
+fn shape_of(ins: &[u64; 16], outs: &mut [u64; 16]) -> usize {
+    let s = outcome::shape_of(byte(ins[0]), flavor_in(ins));
+    let f = s.flavor;
+    let w = words_of(f);
+    outs[0] = s.dims as u64;
+    outs[1] = w.kind;
+    outs[2] = w.p;
+    outs[3] = w.n;
+    outs[4] = w.z;
+    5
+}
+
 // Of two flavors, given as those of two shapes.
 fn promotion(ins: &[u64; 16], outs: &mut [u64; 16]) -> usize {
     let f = flavor_in(ins);
@@ -345,6 +357,7 @@ pub fn make(
         34..=39 | 45 | 49..=50 => values::make_pair(op, ins, a, b, out, outs),
         33 | 40..=44 | 46..=48 | 51..=52 => values::make_one(op, ins, a, out, right, outs),
         53..=56 => make_refusal(op, ins, outs),
+        62 => shape_of(ins, outs),
         _ => 0,
     }
 }

@@ -9,9 +9,9 @@ use super::words::word_at;
 ghost use Prim.Native.Nat.{_≤_};
 
 // What an output holds before a call, in every place.
-const MARK: u64 = 0x4132_d687_1000_0000;
+pub const MARK: u64 = 0x4132_d687_1000_0000;
 
-fn fill(out: &mut [f64]) {
+pub fn fill(out: &mut [f64]) {
     let mark = number_of(MARK);
     let mut i: usize = 0;
     while i < out.len() {
@@ -21,7 +21,7 @@ fn fill(out: &mut [f64]) {
 }
 
 // Whether words are those that the line gives, count and all; where the next word begins, or 0 where they are not.
-fn same_words(t: &[u8], at: usize, have: &[u64; 16], count: usize) -> usize {
+pub fn same_words(t: &[u8], at: usize, have: &[u64; 16], count: usize) -> usize {
     let head = word_at(t, at);
     if head.value != count as u64 {
         return 0;
@@ -43,11 +43,14 @@ fn same_words(t: &[u8], at: usize, have: &[u64; 16], count: usize) -> usize {
 }
 
 // The same for an output: the numbers that the line gives, and past them what was there before.
-fn same_numbers(t: &[u8], at: usize, have: &[f64; 520]) -> usize {
+pub fn same_numbers(t: &[u8], at: usize, have: &[f64]) -> usize {
     let head = word_at(t, at);
+    if (have.len() as u64) < head.value {
+        return 0;
+    }
     let mut next = head.next;
     let mut i: usize = 0;
-    while i < 520 {
+    while i < have.len() {
         let bits = bits_of(have[i]);
         if (i as u64) < head.value {
             let w = word_at(t, next);
@@ -65,10 +68,30 @@ fn same_numbers(t: &[u8], at: usize, have: &[f64; 520]) -> usize {
     next
 }
 
-fn at_most(n: u64, most: usize) -> usize
+pub fn at_most(n: u64, most: usize) -> usize
     ensures { λ r. ⌜ r ≤ most ⌝ }
 {
     if n < most as u64 { n as usize } else { most }
+}
+
+// Whether words and outputs are those that the line gives.
+fn same_answer(
+    t: &[u8],
+    at: usize,
+    outs: &[u64; 16],
+    count: usize,
+    out: &[f64],
+    right: &[f64],
+) -> bool {
+    let after = same_words(t, at, outs, count);
+    if after == 0 {
+        return false;
+    }
+    let next = same_numbers(t, after, out);
+    if next == 0 {
+        return false;
+    }
+    same_numbers(t, next, right) != 0
 }
 
 // Whether the call of a line gives what the line says.
@@ -77,37 +100,31 @@ pub fn agrees(t: &[u8]) -> bool {
     let mut a = [0.0; 520];
     let mut b = [0.0; 520];
     let mut outs = [0u64; 16];
-    let mut out = [0.0; 520];
-    let mut right = [0.0; 520];
+    let mut out_space = [0.0; 520];
+    let mut right_space = [0.0; 520];
     let op = word_at(t, 0);
     let given = read_words(t, op.next, &mut ins);
     let left_in = read_numbers(t, given.next, &mut a);
     let right_in = read_numbers(t, left_in.next, &mut b);
     let room = word_at(t, right_in.next);
     let room_right = word_at(t, room.next);
-    fill(&mut out);
-    fill(&mut right);
     let n = left_in.count;
     let m = right_in.count;
     let k = at_most(room.value, 520);
     let l = at_most(room_right.value, 520);
+    let out = &mut out_space[0..k];
+    let right = &mut right_space[0..l];
+    fill(out);
+    fill(right);
     let count = make(
         op.value,
         &ins,
         given.count,
         &a[0..n],
         &b[0..m],
-        &mut out[0..k],
-        &mut right[0..l],
+        out,
+        right,
         &mut outs,
     );
-    let after = same_words(t, room_right.next, &outs, count);
-    if after == 0 {
-        return false;
-    }
-    let next = same_numbers(t, after, &out);
-    if next == 0 {
-        return false;
-    }
-    same_numbers(t, next, &right) != 0
+    same_answer(t, room_right.next, &outs, count, out, right)
 }

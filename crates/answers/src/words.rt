@@ -42,11 +42,17 @@ pub fn word_at(t: &[u8], at: usize) -> Word {
     Word { value, next: i }
 }
 
+// A NaN of either sign, as the machine has it.
+fn nan_of(negative: bool) -> f64 {
+    let nan = 0.0 / 0.0;
+    if negative { -nan } else { nan }
+}
+
 // The number of a pattern: any NaN's pattern gives a NaN.
 pub fn number_of(bits: u64) -> f64 {
     let size = bits % 0x8000_0000_0000_0000;
     if 0x7ff0_0000_0000_0000 < size {
-        return 0.0 / 0.0;
+        return nan_of(size < bits);
     }
     f64::from_bits(bits)
 }
@@ -92,13 +98,13 @@ pub fn read_numbers(t: &[u8], at: usize, to: &mut [f64]) -> Read
     Read { count: i, next }
 }
 
-pub fn read_words(t: &[u8], at: usize, to: &mut [u64; 16]) -> Read
-    ensures { λ r. ⌜ r .count ≤ 16 ⌝ }
+pub fn read_words(t: &[u8], at: usize, to: &mut [u64]) -> Read
+    ensures { λ r. ⌜ r .count ≤ length (now (to .entry)) ⌝ }
 {
     let head = word_at(t, at);
     let mut next = head.next;
     let mut i: usize = 0;
-    while i < 16 {
+    while i < to.len() {
         if head.value <= i as u64 {
             return Read { count: i, next };
         }

@@ -20,32 +20,78 @@ pub struct Answer {
     pub right: Vec<f64>,
 }
 
-fn words(line: &mut String, list: impl ExactSizeIterator<Item = u64>) {
-    line.push_str(&format!(" {:x}", list.len()));
+/// What goes into a call of the crate `sheets`: words, two lists of words, and how long the output is.
+#[derive(Clone, Default)]
+pub struct SheetCall {
+    pub op: u64,
+    pub words: Vec<u64>,
+    pub first: Vec<u64>,
+    pub second: Vec<u64>,
+    pub room: usize,
+}
+
+/// What comes out: words, and what is written from the front of the output.
+#[derive(Clone, Default)]
+pub struct SheetAnswer {
+    pub words: Vec<u64>,
+    pub out: Vec<u64>,
+}
+
+/// A word in hexadecimal, after a space.
+fn word(line: &mut Vec<u8>, w: u64) {
+    let digits = (67 - (w | 1).leading_zeros()) / 4;
+    line.push(b' ');
+    line.extend((0..digits).rev().map(|i| b"0123456789abcdef"[(w >> (4 * i) & 15) as usize]));
+}
+
+fn words(line: &mut Vec<u8>, list: impl ExactSizeIterator<Item = u64>) {
+    word(line, list.len() as u64);
     for w in list {
-        line.push_str(&format!(" {w:x}"));
+        word(line, w);
     }
 }
 
-fn numbers(line: &mut String, list: &[f64]) {
+fn numbers(line: &mut Vec<u8>, list: &[f64]) {
     words(line, list.iter().map(|x| x.to_bits()));
 }
 
-/// The numbers with one pattern for every NaN, since machines differ in it.
+/// The one pattern that a NaN is written as where machines differ in it.
+pub const NAN: u64 = 0x7ff8 << 48;
+
 fn one_nan(list: &[f64]) -> Vec<f64> {
-    list.iter().map(|x| if x.is_nan() { f64::from_bits(0x7ff8 << 48) } else { *x }).collect()
+    list.iter().map(|x| if x.is_nan() { f64::from_bits(NAN) } else { *x }).collect()
 }
 
 /// The count of its bytes in six hexadecimal digits and a space, then the line.
+fn counted(to: &mut impl Write, mut line: Vec<u8>) -> io::Result<()> {
+    line.push(b'\n');
+    write!(to, "{:06x} ", line.len() - 1)?;
+    to.write_all(&line[1..])
+}
+
 pub fn write(to: &mut impl Write, call: &Call, answer: &Answer) -> io::Result<()> {
-    let mut line = format!("{:x}", call.op);
+    let mut line = vec![];
+    word(&mut line, call.op);
     words(&mut line, call.words.iter().copied());
     numbers(&mut line, &call.a);
     numbers(&mut line, &call.b);
-    line.push_str(&format!(" {:x} {:x}", call.room, call.room_right));
+    word(&mut line, call.room as u64);
+    word(&mut line, call.room_right as u64);
     words(&mut line, answer.words.iter().copied());
     numbers(&mut line, &one_nan(&answer.out));
     numbers(&mut line, &one_nan(&answer.right));
-    line.push('\n');
-    write!(to, "{:06x} {line}", line.len())
+    counted(to, line)
+}
+
+pub fn write_sheet(to: &mut impl Write, call: &SheetCall, answer: &SheetAnswer) -> io::Result<()> {
+    let mut line = vec![];
+    word(&mut line, call.op);
+    for list in [&call.words, &call.first, &call.second] {
+        words(&mut line, list.iter().copied());
+    }
+    word(&mut line, call.room as u64);
+    for list in [&answer.words, &answer.out] {
+        words(&mut line, list.iter().copied());
+    }
+    counted(to, line)
 }

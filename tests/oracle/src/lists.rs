@@ -179,6 +179,15 @@ pub fn promotions(each: &mut impl FnMut(Call)) {
     }
 }
 
+/// Some dimensions, with each flavor of the few.
+pub fn shapes(some: impl Iterator<Item = u64>, each: &mut impl FnMut(Call)) {
+    for dims in some {
+        for f in FLAVORS {
+            each(Call { op: SHAPE_OF, words: [&[dims][..], &f].concat(), ..Call::default() });
+        }
+    }
+}
+
 /// Everything that is small enough to be listed whole.
 pub fn exhaustive(r: &mut Rng, each: &mut impl FnMut(Call)) {
     let few: Vec<u64> = (0..=12).chain([64, 255]).collect();
@@ -193,6 +202,7 @@ pub fn exhaustive(r: &mut Rng, each: &mut impl FnMut(Call)) {
     }
     each(Call { op: NULL_FLAVOR, ..Call::default() });
     promotions(each);
+    shapes(0..256, each);
     for index in 0..256 {
         each(Call { op: METRIC, words: vec![0, 0, 0, 0, 0, index], ..Call::default() });
         each(Call { op: METRIC, words: vec![0, 1, 0, 0, 0, index], ..Call::default() });

@@ -13,6 +13,10 @@ mod product_lists;
 mod products;
 mod refusals;
 mod rules;
+mod sheet_damage;
+mod sheet_lists;
+mod sheet_reader;
+mod sheets;
 
 use std::io::{self, BufWriter, Write};
 
@@ -41,9 +45,70 @@ fn answer(c: &line::Call) -> line::Answer {
     }
 }
 
+/// Which answers are written wrong in one thing.
+#[derive(PartialEq)]
+enum Wrong {
+    None,
+    /// Every hundredth.
+    Hundredth,
+    /// Those of the crate `sheets`, each in every way; no other call is written.
+    Sheets,
+}
+
+/// The lines that are written: how many, and how many of the sheets that are read are good and malformed.
+struct Lines<W> {
+    to: W,
+    wrong: Wrong,
+    made: u64,
+    good: u64,
+    malformed: u64,
+    failed: io::Result<()>,
+}
+
+impl<W: Write> Lines<W> {
+    fn new(to: W, wrong: Wrong) -> Self {
+        Lines { to, wrong, made: 0, good: 0, malformed: 0, failed: Ok(()) }
+    }
+    /// Counts a line, and keeps the first failure to write one.
+    fn count(&mut self, written: io::Result<()>) {
+        self.made += 1;
+        if self.failed.is_ok() {
+            self.failed = written
+        }
+    }
+    /// The way in which the next answer is to be wrong, where it is the hundredth.
+    fn kind(&self) -> Option<u64> {
+        (self.wrong == Wrong::Hundredth && (self.made + 1) % 100 == 0).then_some((self.made + 1) / 100)
+    }
+    fn call(&mut self, c: line::Call) {
+        if self.wrong == Wrong::Sheets {
+            return;
+        }
+        let mut answer = answer(&c);
+        if let Some(kind) = self.kind() {
+            answer = wrong(answer, kind)
+        }
+        let written = line::write(&mut self.to, &c, &answer);
+        self.count(written)
+    }
+    fn sheet(&mut self, c: line::SheetCall) {
+        let answer = sheets::answer(&c);
+        if c.op == sheets::READ {
+            *(if answer.words[0] == 9 { &mut self.malformed } else { &mut self.good }) += 1
+        }
+        let kinds = if self.wrong == Wrong::Sheets { (0..4).map(Some).collect() } else { vec![self.kind()] };
+        for kind in kinds {
+            let said = kind.map_or(answer.clone(), |kind| sheets::wrong(c.op, answer.clone(), kind));
+            let written = line::write_sheet(&mut self.to, &c, &said);
+            self.count(written)
+        }
+    }
+}
+
 /// The stored list: some of each call, of few dimensions, the snap's edges and the arithmetic's corner cases.
-fn stored(each: &mut impl FnMut(line::Call)) {
+fn stored(lines: &mut Lines<impl Write>) {
     let mut r = numbers::Rng(1);
+    let each = &mut |c| lines.call(c);
     each(line::Call { op: masks::NULL_FLAVOR, ..line::Call::default() });
     for op in masks::ALL {
         for i in 0..120 {
@@ -70,11 +135,15 @@ fn stored(each: &mut impl FnMut(line::Call)) {
     }
     refusals::one_by_one(each);
     corners::all(each);
+    lists::shapes([0, 9, 10, 255].into_iter(), each);
+    sheet_lists::stored(&mut |c| lines.sheet(c));
+    sheet_damage::stored(&mut r, &mut |c| lines.sheet(c));
 }
 
 /// All that is small, then so many of each call from a seed, and the products that `exact` checks.
-fn compared(count: u64, seed: u64, each: &mut impl FnMut(line::Call)) {
+fn compared(count: u64, seed: u64, lines: &mut Lines<impl Write>) {
     let mut r = numbers::Rng(seed);
+    let each = &mut |c| lines.call(c);
     lists::exhaustive(&mut r, each);
     product_lists::exhaustive(&mut r, each);
     arithmetic_lists::exhaustive(&mut r, each);
@@ -95,42 +164,39 @@ fn compared(count: u64, seed: u64, each: &mut impl FnMut(line::Call)) {
         }
     }
     product_lists::demanded(count, seed, &mut |_, c| each(c));
+    sheet_lists::exhaustive(&mut |c| lines.sheet(c));
+    sheet_damage::many(count, seed, &mut |c| lines.sheet(c));
 }
 
-/// Writes a list, or the stored one with every hundredth answer wrong; or says what `exact` finds.
+/// Writes a list, or the stored one with answers that are wrong; or says what `exact` finds.
 fn main() -> io::Result<()> {
     std::panic::set_hook(Box::new(|_| {}));
     let args: Vec<String> = std::env::args().skip(1).collect();
+    let words: Vec<&str> = args.iter().map(String::as_str).collect();
     let number = |i: usize| args.get(i).and_then(|w| w.parse::<u64>().ok());
     let (count, seed) = (number(1).unwrap_or(2_000), number(2).unwrap_or(2));
-    let mut out = BufWriter::new(io::stdout().lock());
-    let mut made = 0u64;
-    let mut failed = Ok(());
-    let damaged = args.first().is_some_and(|w| w == "wrong");
-    let mut each = |c: line::Call| {
-        made += 1;
-        let mut answer = answer(&c);
-        if damaged && made % 100 == 0 {
-            answer = wrong(answer, made / 100)
-        }
-        let written = line::write(&mut out, &c, &answer);
-        if failed.is_ok() {
-            failed = written
-        }
+    let wrong = match words[..] {
+        ["wrong", "sheets"] => Wrong::Sheets,
+        ["wrong"] => Wrong::Hundredth,
+        _ => Wrong::None,
     };
-    match args.first().map(String::as_str) {
-        Some("stored" | "wrong") => stored(&mut each),
-        Some("compare") => compared(count, seed, &mut each),
-        Some("exact") => {
+    let mut lines = Lines::new(BufWriter::new(io::stdout().lock()), wrong);
+    match words[..] {
+        ["stored"] | ["wrong"] | ["wrong", "sheets"] => stored(&mut lines),
+        ["compare", ..] => compared(count, seed, &mut lines),
+        ["exact", ..] => {
             demand::check(count, seed);
             return Ok(());
         }
         _ => {
-            eprintln!("usage: oracle stored | oracle wrong | oracle compare [COUNT [SEED]] | oracle exact [COUNT [SEED]]");
+            eprintln!(
+                "usage: oracle stored | oracle wrong [sheets] | oracle compare [COUNT [SEED]] | oracle exact [COUNT [SEED]]"
+            );
             std::process::exit(2);
         }
     }
-    failed?;
-    eprintln!("{made} calls");
-    out.flush()
+    lines.failed?;
+    eprintln!("{} calls", lines.made);
+    eprintln!("{} good and {} malformed sheets", lines.good, lines.malformed);
+    lines.to.flush()
 }

@@ -33,6 +33,7 @@ pub const UNPACK_VECTOR: u64 = 25;
 
 pub const NULL_FLAVOR: u64 = 26;
 pub const PROMOTION: u64 = 32;
+pub const SHAPE_OF: u64 = 62;
 
 /// Every call that takes something, in the order of its numbers.
 pub const ALL: std::ops::RangeInclusive<u64> = GRADE_SIZE..=UNPACK_VECTOR;
@@ -199,6 +200,7 @@ fn done(c: &Call) -> Given<Answer> {
             m.set_flavor(flavor(&w[6..]));
             Ok(Answer { words: vec![m.dims() as u64], ..Answer::default() })
         }
+        SHAPE_OF => Ok(Answer { words: [&[w[0]][..], &flavor_words(flavor(&w[1..]))].concat(), ..Answer::default() }),
         NULL_FLAVOR => Ok(Answer { words: flavor_words(Flavor::NULL).to_vec(), ..Answer::default() }),
         _ => unreachable!("no call has this number"),
     }

@@ -1,17 +1,21 @@
 -- `answers::compare::same_numbers` is safe and ends. Assumes nothing.
 use borrow.Author.Needs.{needs}
-use Prim.Native.Nat.{_≤_, _<_, _-_, _^_}
+use Prim.Native.Nat.{_≤_, _-_}
+use lib.ListN.{length}
 use Rattle.answers.proofs.compare.same_numbers.Statement.{statement}
 use Rattle.answers.proofs.compare.same_numbers.Tie as tie
 
 abbrev Inv-loop : tie.InvT-loop
-Inv-loop t at have head next₀ i₀ next i = i ≤ 520
+Inv-loop t at have head next₀ i₀ next i = i ≤ length have
 
 abbrev μ-loop : tie.MeasureT-loop
-μ-loop t at have head next₀ i₀ next i = 520 - i
+μ-loop t at have head next₀ i₀ next i = length have - i
 
 word-at-requires : tie.Need-word-at-requires Inv-loop μ-loop
 word-at-requires c κs = search needs
+
+returns : tie.Need-returns Inv-loop μ-loop
+returns c = search needs
 
 loop-holds : tie.Need-loop-holds Inv-loop μ-loop
 loop-holds c = search needs
@@ -19,8 +23,8 @@ loop-holds c = search needs
 mul-bits-of : tie.Need-mul-bits-of Inv-loop μ-loop
 mul-bits-of c = search needs
 
-element-copy-out-bits-of : tie.Need-element-copy-out-bits-of Inv-loop μ-loop
-element-copy-out-bits-of c = search needs
+shared-slice-read-bits-of : tie.Need-shared-slice-read-bits-of Inv-loop μ-loop
+shared-slice-read-bits-of c = search needs
 
 bits-of-requires : tie.Need-bits-of-requires Inv-loop μ-loop
 bits-of-requires c κs = search needs
@@ -31,11 +35,11 @@ word-at-requires-2 c κs = search needs
 one-nan-requires : tie.Need-one-nan-requires Inv-loop μ-loop
 one-nan-requires c κs = search needs
 
-returns : tie.Need-returns Inv-loop μ-loop
-returns c = search needs
-
 returns-2 : tie.Need-returns-2 Inv-loop μ-loop
 returns-2 c = search needs
+
+returns-3 : tie.Need-returns-3 Inv-loop μ-loop
+returns-3 c = search needs
 
 add-i : tie.Need-add-i Inv-loop μ-loop
 add-i c = search needs
@@ -46,8 +50,8 @@ loop-less c = search needs
 loop-again : tie.Need-loop-again Inv-loop μ-loop
 loop-again c = search needs
 
-returns-3 : tie.Need-returns-3 Inv-loop μ-loop
-returns-3 c = search needs
+returns-4 : tie.Need-returns-4 Inv-loop μ-loop
+returns-4 c = search needs
 
 pub same-numbers-spec : {M : Type 1} → statement M
 same-numbers-spec =
@@ -56,15 +60,16 @@ same-numbers-spec =
     Inv-loop
     μ-loop
     word-at-requires
+    returns
     loop-holds
     mul-bits-of
-    element-copy-out-bits-of
+    shared-slice-read-bits-of
     bits-of-requires
     word-at-requires-2
     one-nan-requires
-    returns
     returns-2
+    returns-3
     add-i
     loop-less
     loop-again
-    returns-3)
+    returns-4)

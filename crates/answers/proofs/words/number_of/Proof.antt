@@ -6,6 +6,9 @@ use borrow.Author.Tests.{le-ltb}
 use Rattle.answers.proofs.words.number_of.Statement.{statement}
 use Rattle.answers.proofs.words.number_of.Tie as tie
 
+nan-of-requires : tie.Need-nan-of-requires
+nan-of-requires c κs = search needs
+
 returns : tie.Need-returns
 returns c = search needs
 
@@ -16,4 +19,4 @@ returns-2 : tie.Need-returns-2
 returns-2 c = search needs
 
 pub number-of-spec : {M : Type 1} → statement M
-number-of-spec = tie.close (tie.spec returns float-from-bits-result returns-2)
+number-of-spec = tie.close (tie.spec nan-of-requires returns float-from-bits-result returns-2)

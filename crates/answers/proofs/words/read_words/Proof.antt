@@ -1,20 +1,25 @@
--- `answers::words::read_words` meets its contract. Assumes nothing.
+-- `answers::words::read_words` meets its contract: the count is at most the length, which the output keeps. Assumes nothing.
 use borrow.Author.Needs.{needs}
-use Prim.Native.Nat.{_≤_, _<_, _-_, _^_}
+use Prim.Native.Nat.{_≤_, _-_}
+use lib.ListN.{length}
+use mathlib.Core.Path.{_≡_}
 use Rattle.answers.proofs.words.read_words.Statement.{statement}
 use Rattle.answers.proofs.words.read_words.Tie as tie
 
 abbrev Inv-loop : tie.InvT-loop
-Inv-loop t at to₀ head next₀ i₀ to next i = i ≤ 16
+Inv-loop t at to₀ head next₀ i₀ to next i = (i ≤ length to₀) × (length to ≡ length to₀)
 
 abbrev μ-loop : tie.MeasureT-loop
-μ-loop t at to₀ head next₀ i₀ to next i = 16 - i
+μ-loop t at to₀ head next₀ i₀ to next i = length to₀ - i
 
 word-at-requires : tie.Need-word-at-requires Inv-loop μ-loop
 word-at-requires c κs = search needs
 
 loop-holds : tie.Need-loop-holds Inv-loop μ-loop
 loop-holds c = search needs
+
+same-length : tie.Need-same-length Inv-loop μ-loop
+same-length c = search needs
 
 returns : tie.Need-returns Inv-loop μ-loop
 returns c = search needs
@@ -25,8 +30,8 @@ word-at-requires-2 c κs = search needs
 mul-to : tie.Need-mul-to Inv-loop μ-loop
 mul-to c = search needs
 
-element-write-to : tie.Need-element-write-to Inv-loop μ-loop
-element-write-to c = search needs
+slice-write-to : tie.Need-slice-write-to Inv-loop μ-loop
+slice-write-to c = search needs
 
 add-i : tie.Need-add-i Inv-loop μ-loop
 add-i c = search needs
@@ -36,6 +41,9 @@ loop-less c = search needs
 
 loop-again : tie.Need-loop-again Inv-loop μ-loop
 loop-again c = search needs
+
+same-length-2 : tie.Need-same-length-2 Inv-loop μ-loop
+same-length-2 c = search needs
 
 returns-2 : tie.Need-returns-2 Inv-loop μ-loop
 returns-2 c = search needs
@@ -48,11 +56,13 @@ read-words-spec =
     μ-loop
     word-at-requires
     loop-holds
+    same-length
     returns
     word-at-requires-2
     mul-to
-    element-write-to
+    slice-write-to
     add-i
     loop-less
     loop-again
+    same-length-2
     returns-2)
