@@ -19,8 +19,9 @@ use Rattle.masks.proofs.RefusalLaws.{past, unless-done, unless-number}
 use Rattle.sheets.specs.declared.shapes.Shapes.{Shapes}
 use Rattle.sheets.specs.Bytes.{number, section, parts, itemsIn, afterSection}
 use Rattle.sheets.specs.Format.{Sheet, shapeBytes, patternBytes, sheetBytes, bladesOf, limits}
-use Rattle.sheets.specs.Reading.{shapeFrom, said, isSheet, isSheetBytes, malformed, ReadOutcome, readSheet, aSheet, refusedSheet, blankShapes, shapesOf, Reads}
-use Rattle.sheets.specs.Writing.{listedShapes, sheetOf, writeSheet}
+use Rattle.sheets.specs.Shapes.{blankShapes, shapesOf, listedShapes}
+use Rattle.sheets.specs.Reading.{shapeFrom, said, isSheet, isSheetBytes, malformed, ReadOutcome, readSheet, aSheet, refusedSheet, Reads}
+use Rattle.sheets.specs.Writing.{sheetOf, writeSheet}
 use Rattle.sheets.specs.Checks.{checked}
 use Rattle.sheets.proofs.BytesLaws.{AreBytes, littleEndian-length, number-littleEndian, number-lt, take-bytes, drop-bytes, items-section, after-section}
 use Rattle.sheets.proofs.FormatLaws.{shapeBytes-length, shapeFrom-shapeBytes, same-refl, sheet-within, within-sheet}

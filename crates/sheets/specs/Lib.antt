@@ -1,6 +1,7 @@
 -- The definitions that the contracts of `sheets` cite.
 pub mod Bytes
 pub mod Format
+pub mod Shapes
 pub mod Reading
 pub mod Checks
 pub mod Writing

@@ -4,16 +4,16 @@ use mathlib.Core.Bool.{Bool, not, _&&_}
 use mathlib.Core.List.{List, [], _∷_, map}
 use Prim.Native.Nat.{ℕ, zero, suc}
 use lib.Dec.{eqb}
-use lib.ListN.{length, getD, replicate}
+use lib.ListN.{length, getD}
 use Rattle.masks.specs.declared.flavor.Flavor.{Flavor}
 use Rattle.masks.specs.declared.flavor.Flavor.the-variants.{Vanilla, Projective, Cl}
 use Rattle.masks.specs.declared.shape.Shape.{Shape}
 use Rattle.masks.specs.Outcome.{Test, refusal, noRoom, unless, shapeOf, laid}
 use Rattle.masks.specs.Text.{same}
-use Rattle.sheets.specs.declared.shapes.Shapes.{Shapes}
 use Rattle.sheets.specs.declared.read.SheetRead.{SheetRead}
 use Rattle.sheets.specs.Bytes.{number, itemsIn, afterSection}
 use Rattle.sheets.specs.Format.{Sheet, sheetBytes, limits}
+use Rattle.sheets.specs.Shapes.{shapesOf}
 
 -- ---- what bytes say
 
@@ -60,13 +60,6 @@ unfoldable pub readSheet : List ℕ → ℕ → ReadOutcome
 readSheet b room = unless refusedSheet (refusal (malformed b ∷ noRoom room (length (said b .patterns)) ∷ [])) (aSheet (said b))
 
 -- ---- as the answer
-
--- A record of shapes holds 64, shape 0 Vanilla past those that are listed.
-unfoldable pub blankShapes : List Shape
-blankShapes = replicate 64 (shapeOf 0 Vanilla)
-
-abbrev pub shapesOf : List Shape → Shapes
-shapesOf ss = record { count = length ss; held = laid ss blankShapes }
 
 -- The answer has the number, the shapes and the count of the patterns; the patterns are in the output.
 abbrev pub readOf : ReadOutcome → SheetRead

@@ -9,7 +9,7 @@ use Rattle.masks.specs.Outcome.{Test, refusal, unless, shapeOf}
 use Rattle.sheets.specs.declared.shapes.Shapes.{Shapes}
 use Rattle.sheets.specs.declared.shapes.Placed.{Placed}
 use Rattle.sheets.specs.Format.{anyAboveNine, bladesOf}
-use Rattle.sheets.specs.Writing.{listedShapes}
+use Rattle.sheets.specs.Shapes.{listedShapes}
 
 -- Its patterns start after those of the shapes before it.
 abbrev pub startOf : List Shape → ℕ → ℕ

@@ -1,15 +1,11 @@
 -- Writing a sheet. Assumes nothing.
 use mathlib.Core.List.{List, [], _∷_, _++_}
 use Prim.Native.Nat.{ℕ}
-use lib.ListN.{length, take}
-use Rattle.masks.specs.declared.shape.Shape.{Shape}
+use lib.ListN.{length}
 use Rattle.masks.specs.Outcome.{Written, refusal, noRoom, unless, refusedList, listed}
 use Rattle.sheets.specs.declared.shapes.Shapes.{Shapes}
 use Rattle.sheets.specs.Format.{Sheet, sheetBytes, limits}
-
--- The shapes that a record lists: the first of those that it holds.
-abbrev pub listedShapes : Shapes → List Shape
-listedShapes s = take (s .count) (s .held)
+use Rattle.sheets.specs.Shapes.{listedShapes}
 
 abbrev pub sheetOf : Shapes → List ℕ → Sheet
 sheetOf s xs = record { shapes = listedShapes s; patterns = xs }

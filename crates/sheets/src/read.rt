@@ -18,7 +18,8 @@ ghost use Prim.Native.Nat.{_+_, _*_, _≤_};
 ghost use lib.ListN.{length, take, drop};
 ghost use Rattle.masks.specs.Outcome.{laid};
 ghost use Rattle.sheets.specs.Bytes.{number, parts};
-ghost use Rattle.sheets.specs.Reading.{flavorFrom, shapeFrom, shapesOf, refusedSheet, readOf, Reads, readSheet};
+ghost use Rattle.sheets.specs.Shapes.{shapesOf};
+ghost use Rattle.sheets.specs.Reading.{flavorFrom, shapeFrom, refusedSheet, readOf, Reads, readSheet};
 ghost use Rattle.sheets.specs.Checks.{isShape, areShapes, checked};
 
 // A sheet: its patterns are in the lent output.

@@ -12,7 +12,7 @@ ghost use mathlib.Core.Bool.{false};
 ghost use Prim.Native.Nat.{_≤_, min};
 ghost use lib.ListN.{take};
 ghost use Rattle.sheets.specs.Format.{anyAboveNine, bladesOf};
-ghost use Rattle.sheets.specs.Reading.{blankShapes};
+ghost use Rattle.sheets.specs.Shapes.{blankShapes};
 ghost use Rattle.sheets.specs.Values.{refusedPlace, valueAt};
 
 // The most shapes, and the most coefficients, that a sheet has.

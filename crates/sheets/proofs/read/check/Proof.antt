@@ -13,7 +13,8 @@ use Rattle.sheets.specs.declared.shapes.Shapes.{Shapes}
 use Rattle.sheets.specs.declared.read.SheetRead.{SheetRead}
 use Rattle.sheets.specs.Bytes.{number, parts, itemsIn}
 use Rattle.sheets.specs.Format.{bladesOf, anyAboveNine}
-use Rattle.sheets.specs.Reading.{shapeFrom, said, refusedSheet, aSheet, readOf, shapesOf, blankShapes}
+use Rattle.sheets.specs.Shapes.{shapesOf, blankShapes}
+use Rattle.sheets.specs.Reading.{shapeFrom, said, refusedSheet, aSheet, readOf}
 use Rattle.sheets.specs.Checks.{areShapes, checked}
 use Rattle.sheets.proofs.ReadingLaws.{shapesSaid, patternsSaid, shapes-count, patterns-count, WellFormed, shapes-small, checked-refused, checked-done}
 use Rattle.sheets.proofs.read.check.Statement.{statement}

@@ -3,7 +3,7 @@ use mathlib.Core.Path.{ap}
 use lib.ListN.{replicate}
 use borrow.Author.Needs.{needs}
 use Rattle.masks.specs.declared.shape.Shape.{Shape}
-use Rattle.sheets.specs.Reading.{blankShapes}
+use Rattle.sheets.specs.Shapes.{blankShapes}
 use Rattle.sheets.proofs.shapes.blank_shapes.Statement.{statement}
 use Rattle.sheets.proofs.shapes.blank_shapes.Tie as tie
 

@@ -12,7 +12,7 @@ use Rattle.masks.specs.Outcome.{refusal, unless, shapeOf}
 use Rattle.sheets.specs.declared.shapes.Shapes.{Shapes}
 use Rattle.sheets.specs.Format.{anyAboveNine, bladesOf}
 use Rattle.sheets.specs.Values.{refusedPlace, valueAt}
-use Rattle.sheets.specs.Writing.{listedShapes}
+use Rattle.sheets.specs.Shapes.{listedShapes}
 use Rattle.sheets.proofs.FormatLaws.{above-take}
 use Rattle.sheets.proofs.WritingLaws.{listed-most}
 use Rattle.sheets.proofs.shapes.value_at.Statement.{statement}

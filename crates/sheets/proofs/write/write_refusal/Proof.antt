@@ -11,7 +11,7 @@ use borrow.Author.Needs.{needs}
 use Rattle.masks.specs.Outcome.{Test, refusal}
 use Rattle.masks.proofs.RefusalLaws.{refused-first, refused-later}
 use Rattle.sheets.specs.Format.{anyAboveNine, bladesOf, limits}
-use Rattle.sheets.specs.Writing.{listedShapes}
+use Rattle.sheets.specs.Shapes.{listedShapes}
 use Rattle.sheets.proofs.WritingLaws.{listed-most}
 use Rattle.sheets.proofs.write.write_refusal.Statement.{statement}
 use Rattle.sheets.proofs.write.write_refusal.Tie as tie
