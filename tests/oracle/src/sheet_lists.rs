@@ -327,7 +327,8 @@ fn turns(each: &mut impl FnMut(SheetCall)) {
     }
 }
 
-/// The stored ones, but for those that are drawn: the sheet of the worked table, one of 64 shapes, and each refusal alone.
+/// The stored ones, but for those that are drawn: the sheet of the worked table, one of 64 shapes, one of nine dimensions, and each refusal
+/// alone.
 pub fn stored(each: &mut impl FnMut(SheetCall)) {
     round_trip(&worked(), each);
     let s = sheet(&FLAVORS.map(|f| shape(0, f)).repeat(8), 0);
@@ -337,6 +338,10 @@ pub fn stored(each: &mut impl FnMut(SheetCall)) {
     for index in [63, 64] {
         each(value_at(64, &s.shapes, index));
     }
+    let nine = Sheet { shapes: vec![shape(9, PROJECTIVE)], patterns: vec![0; 512] };
+    let bytes = ours::write(&nine);
+    each(write(1, &nine.shapes, &nine.patterns, bytes.len()));
+    each(read(&bytes, 512));
     for op in [NUMBERS_OF, PATTERNS_OF] {
         each(turned(op, &PATTERNS, PATTERNS.len()));
         each(turned(op, &PATTERNS, PATTERNS.len() - 1));
