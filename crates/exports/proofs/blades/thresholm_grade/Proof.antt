@@ -1,0 +1,65 @@
+-- `exports::blades::thresholm_grade` meets its contract: an accepted grade is at most the dimensions, and they at most 9. Assumes nothing.
+use mathlib.Core.Path.{_≡_, sym, ap, _∙_}
+use borrow.Author.Needs.{needs}
+use Rattle.masks.specs.declared.shape.Shape.{Shape}
+use Rattle.masks.specs.Shapes.{gradeRefusal}
+use Rattle.masks.proofs.RefusalLaws.{unless-refused, unless-done}
+use Rattle.masks.proofs.BladeLaws.{Graded, graded}
+use Rattle.exports.specs.Numbers.{shaped}
+use Rattle.exports.specs.Told.{told}
+use Rattle.exports.proofs.blades.thresholm_grade.Statement.{statement}
+use Rattle.exports.proofs.blades.thresholm_grade.Tie as tie
+
+shape-from-requires : tie.Need-shape-from-requires
+shape-from-requires c κs = search needs
+
+grade-refusal-requires : tie.Need-grade-refusal-requires
+grade-refusal-requires c κs = search needs
+
+abbrev given : tie.After-grade-refusal → Shape
+given c =
+    let a = c .before .before .before .args in
+    shaped (a .dims) (a .kind) (a .p) (a .n) (a .z)
+
+-- The number is that of the given shape.
+numbered : (c : tie.After-grade-refusal) → c .grade-refusal .result ≡ gradeRefusal (given c) (c .before .before .before .args .grade) (c .before .before .before .args .a .now)
+numbered c =
+    let a = c .before .before .before .args in
+    c .grade-refusal .ensures ∙ ap (λ (s : Shape). gradeRefusal s (a .grade) (a .a .now)) {y = given c} (c .before .shape-from .ensures)
+
+returns : tie.Need-returns
+unfolding told
+returns c =
+    let e = numbered (c .before) in
+    record { returned = e; holding = sym (unless-refused _ _ _ _ e (c .if1 .taken)) }
+
+-- The grade is not refused.
+ok : (c : tie.Else1) → Graded (given (c .before)) (c .before .before .before .before .args .grade) (c .before .before .before .before .args .a .now)
+ok c = graded _ _ _ (sym (numbered (c .before)) ∙ c .if1 .left)
+
+start-of-requires : tie.Need-start-of-requires
+start-of-requires c κs = (ok c .value .small, ok c .within)
+
+size-of-requires : tie.Need-size-of-requires
+size-of-requires c κs = ok (c .before) .value .small
+
+returns-2 : tie.Need-returns-2
+unfolding told
+returns-2 c =
+    let i = c .before .before in
+    let e = numbered (i .before) in
+    record {
+      returned = e;
+      holding = rw (c .before .start-of .ensures, c .size-of .ensures) (sym (unless-done _ _ _ _ e (i .if1 .left)));
+    }
+
+pub thresholm-grade-spec : {M : Type 1} → statement M
+thresholm-grade-spec =
+    tie.close
+    (tie.spec
+    shape-from-requires
+    grade-refusal-requires
+    returns
+    start-of-requires
+    size-of-requires
+    returns-2)

@@ -1,0 +1,31 @@
+-- `exports::build::thresholm_blades_right` meets its contract. Assumes nothing.
+use mathlib.Core.Path.{ap}
+use borrow.Author.Needs.{needs}
+use lib.ListN.{length}
+use Rattle.masks.specs.declared.flavor.Flavor.{Flavor}
+use Rattle.masks.specs.Build.{bladesOf}
+use Rattle.exports.proofs.ToldLaws.{value-told}
+use Rattle.exports.proofs.build.thresholm_blades_right.Statement.{statement}
+use Rattle.exports.proofs.build.thresholm_blades_right.Tie as tie
+
+flavor-from-requires : tie.Need-flavor-from-requires
+flavor-from-requires c κs = search needs
+
+blades-right-requires : tie.Need-blades-right-requires
+blades-right-requires c κs = search needs
+
+tell-requires : tie.Need-tell-requires
+tell-requires c κs = search needs
+
+same-length : tie.Need-same-length
+same-length c = search needs
+
+returns : tie.Need-returns
+returns c =
+    let given = c .before .before .before .before .before .before .before .before .before .before .before .before .before .args in
+    value-told (ap (λ (f : Flavor). bladesOf 1 (given .dims) (given .v .now) f (length (given .out .now))) (c .before .before .before .before .before .before .before .before .before .before .flavor-from .ensures)) (c .before .before .before .before .before .before .before .before .blades-right .ensures) (c .tell .ensures)
+
+pub thresholm-blades-right-spec : {M : Type 1} → statement M
+thresholm-blades-right-spec =
+    tie.close
+    (tie.spec flavor-from-requires blades-right-requires tell-requires same-length returns)

@@ -1,0 +1,30 @@
+-- `exports::build::thresholm_vector` meets its contract. Assumes nothing.
+use mathlib.Core.Path.{ap}
+use borrow.Author.Needs.{needs}
+use lib.ListN.{length}
+use Rattle.masks.specs.declared.flavor.Flavor.{Flavor}
+use Rattle.masks.specs.Build.{vector}
+use Rattle.exports.proofs.ToldLaws.{value-told}
+use Rattle.exports.proofs.build.thresholm_vector.Statement.{statement}
+use Rattle.exports.proofs.build.thresholm_vector.Tie as tie
+
+flavor-from-requires : tie.Need-flavor-from-requires
+flavor-from-requires c κs = search needs
+
+vector-requires : tie.Need-vector-requires
+vector-requires c κs = search needs
+
+tell-requires : tie.Need-tell-requires
+tell-requires c κs = search needs
+
+same-length : tie.Need-same-length
+same-length c = search needs
+
+returns : tie.Need-returns
+returns c =
+    let given = c .before .before .before .before .before .before .before .before .before .before .before .before .before .args in
+    value-told (ap (λ (f : Flavor). vector (given .v .now) f (length (given .out .now))) (c .before .before .before .before .before .before .before .before .before .before .flavor-from .ensures)) (c .before .before .before .before .before .before .before .before .vector .ensures) (c .tell .ensures)
+
+pub thresholm-vector-spec : {M : Type 1} → statement M
+thresholm-vector-spec =
+    tie.close (tie.spec flavor-from-requires vector-requires tell-requires same-length returns)

@@ -1,0 +1,24 @@
+-- `exports::flavors::thresholm_promotion` meets its contract. Assumes nothing.
+use mathlib.Core.Path.{ap₂, _∙_}
+use borrow.Author.Needs.{needs}
+use Rattle.masks.specs.declared.flavor.Flavor.{Flavor}
+use Rattle.masks.specs.Shapes.{promotes}
+use Rattle.exports.proofs.flavors.thresholm_promotion.Statement.{statement}
+use Rattle.exports.proofs.flavors.thresholm_promotion.Tie as tie
+
+flavor-from-requires : tie.Need-flavor-from-requires
+flavor-from-requires c κs = search needs
+
+flavor-from-requires-2 : tie.Need-flavor-from-requires-2
+flavor-from-requires-2 c κs = search needs
+
+promotion-requires : tie.Need-promotion-requires
+promotion-requires c κs = search needs
+
+returns : tie.Need-returns
+returns c =
+    c .promotion .ensures ∙ (ap₂ (λ (f : Flavor) (g : Flavor). promotes f g) (c .before .before .flavor-from .ensures) (c .before .flavor-from2 .ensures))
+
+pub thresholm-promotion-spec : {M : Type 1} → statement M
+thresholm-promotion-spec =
+    tie.close (tie.spec flavor-from-requires flavor-from-requires-2 promotion-requires returns)

@@ -1,0 +1,40 @@
+-- `exports::operators::thresholm_mul` meets its contract. Assumes nothing.
+use mathlib.Core.Path.{ap₂}
+use borrow.Author.Needs.{needs}
+use lib.ListN.{length}
+use Rattle.masks.specs.declared.shape.Shape.{Shape}
+use Rattle.arithmetic.specs.Operators.{multiply}
+use Rattle.exports.proofs.ToldLaws.{value-told}
+use Rattle.exports.proofs.operators.thresholm_mul.Statement.{statement}
+use Rattle.exports.proofs.operators.thresholm_mul.Tie as tie
+
+shape-from-requires : tie.Need-shape-from-requires
+shape-from-requires c κs = search needs
+
+shape-from-requires-2 : tie.Need-shape-from-requires-2
+shape-from-requires-2 c κs = search needs
+
+mul-requires : tie.Need-mul-requires
+mul-requires c κs = search needs
+
+tell-requires : tie.Need-tell-requires
+tell-requires c κs = search needs
+
+same-length : tie.Need-same-length
+same-length c = search needs
+
+returns : tie.Need-returns
+returns c =
+    let given = c .before .before .before .before .before .before .before .before .before .before .before .before .before .before .before .args in
+    value-told (ap₂ (λ (s : Shape) (t : Shape). multiply s t (given .a .now) (given .b .now) (length (given .out .now))) (c .before .before .before .before .before .before .before .before .before .before .before .shape-from .ensures) (c .before .before .before .before .before .before .before .before .before .before .shape-from2 .ensures)) (c .before .before .before .before .before .before .before .before .mul .ensures) (c .tell .ensures)
+
+pub thresholm-mul-spec : {M : Type 1} → statement M
+thresholm-mul-spec =
+    tie.close
+    (tie.spec
+    shape-from-requires
+    shape-from-requires-2
+    mul-requires
+    tell-requires
+    same-length
+    returns)

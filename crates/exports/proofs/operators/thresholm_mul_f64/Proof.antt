@@ -1,0 +1,30 @@
+-- `exports::operators::thresholm_mul_f64` meets its contract. Assumes nothing.
+use mathlib.Core.Path.{ap}
+use borrow.Author.Needs.{needs}
+use lib.ListN.{length}
+use Rattle.masks.specs.declared.shape.Shape.{Shape}
+use Rattle.arithmetic.specs.Kept.{mulF64}
+use Rattle.exports.proofs.ToldLaws.{value-told}
+use Rattle.exports.proofs.operators.thresholm_mul_f64.Statement.{statement}
+use Rattle.exports.proofs.operators.thresholm_mul_f64.Tie as tie
+
+shape-from-requires : tie.Need-shape-from-requires
+shape-from-requires c κs = search needs
+
+mul-f64-requires : tie.Need-mul-f64-requires
+mul-f64-requires c κs = search needs
+
+tell-requires : tie.Need-tell-requires
+tell-requires c κs = search needs
+
+same-length : tie.Need-same-length
+same-length c = search needs
+
+returns : tie.Need-returns
+returns c =
+    let given = c .before .before .before .before .before .before .before .before .before .before .before .before .before .args in
+    value-told (ap (λ (s : Shape). mulF64 s (given .f) (given .a .now) (length (given .out .now))) (c .before .before .before .before .before .before .before .before .before .before .shape-from .ensures)) (c .before .before .before .before .before .before .before .before .mul-f64 .ensures) (c .tell .ensures)
+
+pub thresholm-mul-f64-spec : {M : Type 1} → statement M
+thresholm-mul-f64-spec =
+    tie.close (tie.spec shape-from-requires mul-f64-requires tell-requires same-length returns)

@@ -1,0 +1,30 @@
+-- `exports::operators::thresholm_neg` meets its contract. Assumes nothing.
+use mathlib.Core.Path.{ap}
+use borrow.Author.Needs.{needs}
+use lib.ListN.{length}
+use Rattle.masks.specs.declared.shape.Shape.{Shape}
+use Rattle.arithmetic.specs.Kept.{negation}
+use Rattle.exports.proofs.ToldLaws.{value-told}
+use Rattle.exports.proofs.operators.thresholm_neg.Statement.{statement}
+use Rattle.exports.proofs.operators.thresholm_neg.Tie as tie
+
+shape-from-requires : tie.Need-shape-from-requires
+shape-from-requires c κs = search needs
+
+neg-requires : tie.Need-neg-requires
+neg-requires c κs = search needs
+
+tell-requires : tie.Need-tell-requires
+tell-requires c κs = search needs
+
+same-length : tie.Need-same-length
+same-length c = search needs
+
+returns : tie.Need-returns
+returns c =
+    let given = c .before .before .before .before .before .before .before .before .before .before .before .before .before .args in
+    value-told (ap (λ (s : Shape). negation s (given .a .now) (length (given .out .now))) (c .before .before .before .before .before .before .before .before .before .before .shape-from .ensures)) (c .before .before .before .before .before .before .before .before .neg .ensures) (c .tell .ensures)
+
+pub thresholm-neg-spec : {M : Type 1} → statement M
+thresholm-neg-spec =
+    tie.close (tie.spec shape-from-requires neg-requires tell-requires same-length returns)

@@ -1,0 +1,22 @@
+-- `exports::tell::tell_place` meets its contract. Assumes nothing.
+use mathlib.Core.Path.{ap}
+use mathlib.Core.List.{List, [], _∷_, _++_}
+use borrow.Author.Needs.{needs}
+use Prim.Native.Nat.{ℕ}
+use Rattle.exports.proofs.ToldLaws.{kept-told, done-told}
+use Rattle.exports.proofs.tell.tell_place.Statement.{statement}
+use Rattle.exports.proofs.tell.tell_place.Tie as tie
+
+returns : tie.Need-returns
+returns c =
+    kept-told (c .before .args .placed .number) (c .if1 .taken)
+
+tell-shape-requires : tie.Need-tell-shape-requires
+tell-shape-requires c κs = search needs
+
+returns-2 : tie.Need-returns-2
+returns-2 c =
+    done-told (c .before .before .before .before .before .before .before .args .placed .number) (c .before .before .before .before .before .before .if1 .left) (ap (λ (s : List ℕ). s ++ (c .before .before .before .before .before .before .before .args .placed .start ∷ [])) (c .tell-shape .ensures))
+
+pub tell-place-spec : {M : Type 1} → statement M
+tell-place-spec = tie.close (tie.spec returns tell-shape-requires returns-2)

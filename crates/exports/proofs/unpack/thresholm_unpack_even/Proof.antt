@@ -1,0 +1,31 @@
+-- `exports::unpack::thresholm_unpack_even` meets its contract. Assumes nothing.
+use mathlib.Core.Path.{ap}
+use borrow.Author.Needs.{needs}
+use lib.ListN.{length}
+use Rattle.masks.specs.declared.shape.Shape.{Shape}
+use Rattle.masks.specs.Unpack.{unpackHalf}
+use Rattle.exports.proofs.ToldLaws.{list-told}
+use Rattle.exports.proofs.unpack.thresholm_unpack_even.Statement.{statement}
+use Rattle.exports.proofs.unpack.thresholm_unpack_even.Tie as tie
+
+shape-from-requires : tie.Need-shape-from-requires
+shape-from-requires c κs = search needs
+
+unpack-even-requires : tie.Need-unpack-even-requires
+unpack-even-requires c κs = search needs
+
+tell-count-requires : tie.Need-tell-count-requires
+tell-count-requires c κs = search needs
+
+same-length : tie.Need-same-length
+same-length c = search needs
+
+returns : tie.Need-returns
+returns c =
+    let given = c .before .before .before .before .before .before .before .before .before .args in
+    list-told (ap (λ (s : Shape). unpackHalf 0 s (given .d) (given .a .now) (length (given .out .now))) (c .before .before .before .before .before .before .shape-from .ensures)) (c .before .before .before .before .unpack-even .ensures) (c .tell-count .ensures)
+
+pub thresholm-unpack-even-spec : {M : Type 1} → statement M
+thresholm-unpack-even-spec =
+    tie.close
+    (tie.spec shape-from-requires unpack-even-requires tell-count-requires same-length returns)

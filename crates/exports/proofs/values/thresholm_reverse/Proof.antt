@@ -1,0 +1,30 @@
+-- `exports::values::thresholm_reverse` meets its contract. Assumes nothing.
+use mathlib.Core.Path.{ap}
+use borrow.Author.Needs.{needs}
+use lib.ListN.{length}
+use Rattle.masks.specs.declared.shape.Shape.{Shape}
+use Rattle.arithmetic.specs.Kept.{reverse}
+use Rattle.exports.proofs.ToldLaws.{value-told}
+use Rattle.exports.proofs.values.thresholm_reverse.Statement.{statement}
+use Rattle.exports.proofs.values.thresholm_reverse.Tie as tie
+
+shape-from-requires : tie.Need-shape-from-requires
+shape-from-requires c κs = search needs
+
+reverse-requires : tie.Need-reverse-requires
+reverse-requires c κs = search needs
+
+tell-requires : tie.Need-tell-requires
+tell-requires c κs = search needs
+
+same-length : tie.Need-same-length
+same-length c = search needs
+
+returns : tie.Need-returns
+returns c =
+    let given = c .before .before .before .before .before .before .before .before .before .before .before .before .before .args in
+    value-told (ap (λ (s : Shape). reverse s (given .a .now) (length (given .out .now))) (c .before .before .before .before .before .before .before .before .before .before .shape-from .ensures)) (c .before .before .before .before .before .before .before .before .reverse .ensures) (c .tell .ensures)
+
+pub thresholm-reverse-spec : {M : Type 1} → statement M
+thresholm-reverse-spec =
+    tie.close (tie.spec shape-from-requires reverse-requires tell-requires same-length returns)

@@ -1,0 +1,4 @@
+-- The definitions that the contracts of `exports` cite.
+pub mod Numbers
+pub mod Told
+pub mod Parts

@@ -1,0 +1,68 @@
+// The order of masks, and the sizes of grades.
+use super::tell::tell_count;
+use masks::order::blade_count;
+use masks::order::grade_size;
+use masks::order::order_of;
+use masks::outcome::DONE;
+use masks::outcome::NO_ROOM;
+ghost use mathlib.Core.Path.{_≡_};
+ghost use Prim.Native.Nat.{_≤_};
+ghost use lib.ListN.{length};
+ghost use Rattle.masks.specs.Outcome.{laid};
+ghost use Rattle.masks.specs.Order.{bladeCount};
+ghost use Rattle.masks.specs.Shapes.{gradeSize};
+ghost use Rattle.exports.specs.Told.{TellsCount};
+ghost use Rattle.exports.specs.Parts.{TellsOrderOf};
+ghost use lib.ListN.{take};
+
+// The first n of an array's masks or places, from the front of an output.
+fn copy_masks(from: &[u16; 512], n: usize, to: &mut [u16])
+    requires { ⌜ (n ≤ 512) × (n ≤ length (now to)) × (length (now from) ≡ 512) ⌝ }
+    ensures { λ _. ⌜ now (to .exit) ≡ laid (take n (now (from .entry))) (now (to .entry)) ⌝ }
+{
+    let mut i: usize = 0;
+    while i < n {
+        to[i] = from[i];
+        i += 1;
+    }
+}
+
+// How many blades there are, none where the dimensions are above 9.
+#[no_mangle]
+pub extern "C" fn thresholm_blade_count(dims: u8) -> usize
+    ensures { λ r. ⌜ r ≡ bladeCount dims ⌝ }
+{
+    blade_count(dims)
+}
+
+// The size of a grade: 0 for a grade above the dimensions.
+#[no_mangle]
+pub extern "C" fn thresholm_grade_size(dims: u8, grade: u8, to_count: &mut usize) -> u8
+    ensures { λ r. ⌜ TellsCount (gradeSize dims grade) r (now («to_count» .entry)) (now («to_count» .exit)) ⌝ }
+{
+    tell_count(grade_size(dims, grade), to_count)
+}
+
+// The order of `dims` dimensions and the place of each mask in it, that of none where they are above 9, and how many there are.
+#[no_mangle]
+pub extern "C" fn thresholm_order_of(
+    dims: u8,
+    masks: &mut [u16],
+    places: &mut [u16],
+    to_count: &mut usize,
+) -> u8
+    ensures { λ r. ⌜ TellsOrderOf dims r (now (masks .entry)) (now (masks .exit)) (now (places .entry)) (now (places .exit)) (now («to_count» .entry)) (now («to_count» .exit)) ⌝ }
+{
+    let order = order_of(dims);
+    let count = blade_count(order.dims);
+    if masks.len() < count {
+        return NO_ROOM;
+    }
+    if places.len() < count {
+        return NO_ROOM;
+    }
+    copy_masks(&order.masks, count, masks);
+    copy_masks(&order.places, count, places);
+    *to_count = count;
+    DONE
+}

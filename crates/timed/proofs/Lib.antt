@@ -1,2 +1,0 @@
--- The law that the proofs of `timed` cite.
-pub mod TimedLaws
