@@ -1,5 +1,6 @@
--- The laws that the proofs of `exports` cite.
+-- The laws that the proofs of `exports` cite, and what its contracts leave open: nothing.
 pub mod ToldLaws
 pub mod OrderLaws
 pub mod GradeLaws
 pub mod SheetLaws
+pub mod NarrowLaws

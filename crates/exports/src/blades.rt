@@ -90,7 +90,8 @@ pub extern "C" fn thresholm_grade_refusal(
 ) -> u8
     ensures { λ r. ⌜ r ≡ gradeRefusal (shaped dims kind p n z) grade (now (a .entry)) ⌝ }
 {
-    shape_from(dims, kind, p, n, z).grade_refusal(grade, a)
+    let shape = shape_from(dims, kind, p, n, z);
+    shape.grade_refusal(grade, a)
 }
 
 // One grade of a value: the place at which it starts, and how many numbers it has.
