@@ -1,0 +1,48 @@
+/* The order of masks, and the sizes of grades. */
+#include "check.h"
+
+static void sizes(void) {
+    GIVES(1, blade_count, 0);
+    GIVES(8, blade_count, 3);
+    GIVES(512, blade_count, 9);
+    GIVES(0, blade_count, 10);
+    GIVES(0, blade_count, 255);
+
+    want.count = 3;
+    CALL(0, grade_size, 3, 1, &told.count);
+    want.count = 126;
+    CALL(0, grade_size, 9, 4, &told.count);
+    want.count = 0;
+    CALL(0, grade_size, 3, 4, &told.count);
+    CALL(1, grade_size, 10, 0, &told.count);
+}
+
+/* The order of the worked table, and its inverse. */
+static void want_order(const uint16_t *masks, uint16_t count) {
+    for (uint16_t i = 0; i < count; i++) {
+        want.masks[i] = masks[i];
+        want.places[masks[i]] = i;
+    }
+    want.count = count;
+}
+
+static void orders(void) {
+    static const uint16_t none[] = {0}, three[] = {0, 1, 2, 4, 3, 5, 6, 7};
+    static const uint16_t four[] = {0, 1, 2, 4, 8, 3, 5, 9, 6, 10, 12, 7, 11, 13, 14, 15};
+    want_order(LENT(three));
+    CALL(0, order_of, 3, told.masks, 8, told.places, 8, &told.count);
+    want_order(LENT(four));
+    CALL(0, order_of, 4, told.masks, ROOM, told.places, ROOM, &told.count);
+    want_order(LENT(none));
+    CALL(0, order_of, 0, told.masks, 1, told.places, 1, &told.count);
+    want_order(LENT(none));
+    CALL(0, order_of, 10, told.masks, ROOM, told.places, ROOM, &told.count);
+    CALL(3, order_of, 3, told.masks, 7, told.places, 8, &told.count);
+    CALL(3, order_of, 3, told.masks, 8, told.places, 7, &told.count);
+    CALL(3, order_of, 10, told.masks, 0, told.places, 1, &told.count);
+}
+
+void order(void) {
+    sizes();
+    orders();
+}
