@@ -1,0 +1,26 @@
+//! The order of masks, and the sizes of grades.
+use super::tell_count;
+use crate::error::Error;
+use crate::sys;
+
+/// How many blades there are, 0 where the dimensions are above 9.
+#[must_use]
+pub fn blade_count(dims: u8) -> usize {
+    // SAFETY: the call takes a number alone.
+    unsafe { sys::thresholm_blade_count(dims) }
+}
+
+/// The size of a grade: 0 for a grade above the dimensions.
+pub fn grade_size(dims: u8, grade: u8) -> Result<usize, Error> {
+    // SAFETY: the pointer is of a number that is borrowed for the call; see the module.
+    tell_count(|to_count| unsafe { sys::thresholm_grade_size(dims, grade, to_count) })
+}
+
+/// The order of `dims` dimensions and the place of each mask in it, that of no dimensions where they are above 9, and how many masks there are.
+#[rustfmt::skip]
+pub fn order_of(dims: u8, masks: &mut [u16], places: &mut [u16]) -> Result<usize, Error> {
+    // SAFETY: every pointer is of something that is borrowed for the call; see the module.
+    tell_count(|to_count| unsafe {
+        sys::thresholm_order_of(dims, masks.as_mut_ptr(), masks.len(), places.as_mut_ptr(), places.len(), to_count)
+    })
+}

@@ -1,0 +1,101 @@
+//! Random bytes, texts and arguments: the command never panics and always ends with 0, 1 or 2.
+use crate::support::{Rng, Run, file, folder, run, sheet};
+use std::path::Path;
+use thresholm::Shape;
+
+fn ends_well(run: &Run) {
+    assert!(matches!(run.status, 0..=2), "{}: {}", run.status, run.err);
+    assert_eq!(run.status == 0, run.err.is_empty(), "{}", run.err);
+}
+
+fn each_reader(folder: &Path, bytes: &[u8]) -> [i32; 3] {
+    let rig = file(folder, "any.rig", bytes);
+    let runs = [run(&["check", &rig]), run(&["show", &rig]), run(&["product", &rig, "0", "1", "0"])];
+    runs.each_ref().map(|run| {
+        ends_well(run);
+        run.status
+    })
+}
+
+#[test]
+fn random_bytes_as_sheets() {
+    let folder = folder("fuzz-bytes");
+    let mut r = Rng(10);
+    for _ in 0..150 {
+        let most = r.pick(&[2, 4, 256]);
+        let bytes: Vec<u8> = (0..r.below(60)).map(|_| r.below(most) as u8).collect();
+        each_reader(&folder, &bytes);
+    }
+}
+
+#[test]
+fn damaged_sheets() {
+    let folder = folder("fuzz-damage");
+    let mut r = Rng(11);
+    let mut valid = 0;
+    for _ in 0..150 {
+        let shapes: Vec<Shape> = (0..2 + r.below(2)).map(|_| Shape::new(r.below(4) as u8, r.flavor())).collect();
+        let count = shapes.iter().map(|shape| shape.blade_count()).sum();
+        let patterns: Vec<u64> = (0..count).map(|_| r.next()).collect();
+        let mut bytes = sheet(&shapes, &patterns);
+        for _ in 0..r.below(3) {
+            let at = r.below(bytes.len());
+            bytes[at] = r.next() as u8;
+        }
+        if r.below(4) == 0 {
+            bytes.truncate(r.below(bytes.len()));
+        }
+        let [check, show, _] = each_reader(&folder, &bytes);
+        assert_eq!(check, show);
+        valid += usize::from(check == 0);
+    }
+    assert!((20..150).contains(&valid), "{valid} are valid");
+}
+
+/// Pieces that texts are made of, and some that they are not.
+const PIECES: [&str; 40] = [
+    "a", ":", ":", "\n", "\n", "\n", " ", " ", " ", "=", "=", "#", "0", "1", "2", "3", "9", "10", "VGA", "PGA", "Cl", "Cl 3 0 1", "dimensions,", "flavor", "e1", "e12", "e20",
+    "-", ".", ",", "1e999", "0x", "0x7FF8000000000001", "nan", "inf", "é", "\u{2028}", "\r", "\t", "\0",
+];
+
+#[test]
+fn random_texts() {
+    let folder = folder("fuzz-text");
+    let rig = folder.join("any.rig");
+    let mut r = Rng(12);
+    let mut done = 0;
+    for round in 0..400 {
+        let mut text: Vec<u8> = (0..r.below(40)).flat_map(|_| r.pick(&PIECES).bytes()).collect();
+        if round % 2 == 0 {
+            text.splice(0..0, r.pick(&["a: 0 VGA\n", "a: 1 PGA\n1 ", "a: 2 VGA\ne1 = "]).bytes());
+        }
+        if round % 10 == 0 {
+            text.push(0x80 | r.next() as u8);
+        }
+        let text = file(&folder, "any.txt", &text);
+        let run = run(&["import".as_ref(), text.as_ref(), "-o".as_ref(), rig.as_os_str()]);
+        ends_well(&run);
+        done += usize::from(run.status == 0);
+        if run.status == 1 {
+            let place = run.err.strip_prefix(&format!("{text}:")).expect("the file's name");
+            let mut parts = place.split(':');
+            assert!(parts.next().is_some_and(|line| line.parse::<usize>().is_ok_and(|line| line > 0)), "{}", run.err);
+            assert!(parts.next().is_some_and(|column| column.parse::<usize>().is_ok_and(|column| column > 0)), "{}", run.err);
+        }
+    }
+    assert!(done > 5, "{done} are read");
+}
+
+#[test]
+fn random_arguments() {
+    let mut r = Rng(13);
+    let words = ["import", "show", "check", "product", "help", "--help", "-h", "-V", "--version", "-o", "--", "-", "", "0", "1", "-1", "/dev/null", "no-such-file", "é", "\n"];
+    for _ in 0..300 {
+        let arguments: Vec<&str> = (0..r.below(6)).map(|_| r.pick(&words)).collect();
+        // What could write a file in the folder of the tests is left out.
+        if arguments.contains(&"-o") && !arguments.contains(&"no-such-file") {
+            continue;
+        }
+        ends_well(&run(&arguments));
+    }
+}

@@ -1,0 +1,135 @@
+//! `thresholm import`: what is read, where faults are told, and what becomes of files.
+use crate::support::{file, folder, run, sheet};
+use std::fs;
+use std::path::Path;
+use thresholm::{Flavor, Sheet, Shape};
+
+/// Imports a text; gives the sheet.
+fn imported(test: &str, text: &str) -> Sheet {
+    let folder = folder(test);
+    let text = file(&folder, "room.txt", text.as_bytes());
+    let rig = folder.join("room.rig");
+    run(&["import".as_ref(), text.as_ref(), "-o".as_ref(), rig.as_os_str()]).done();
+    Sheet::from_bytes(&fs::read(rig).expect("a sheet")).expect("it is valid")
+}
+
+/// The fault that a text has, without the file's name.
+fn fault(folder: &Path, text: &[u8]) -> String {
+    let text = file(folder, "room.txt", text);
+    let rig = folder.join("room.rig");
+    let message = run(&["import".as_ref(), text.as_ref(), "-o".as_ref(), rig.as_os_str()]).refused();
+    assert!(!rig.exists(), "a refused text is not written");
+    let rest = message.strip_prefix(&text).and_then(|rest| rest.strip_suffix('\n'));
+    rest.unwrap_or_else(|| panic!("{message}")).to_string()
+}
+
+#[test]
+fn both_forms_are_read() {
+    let sheet = imported("forms", "\u{feff}# a room\r\na: 2 VGA\r\n 1 2\t-3.5\r\n\r\n 4e2 # the last\r\nb: 3 dimensions, flavor PGA\n e20 = 7 e12=-0\n1=nan\n:1 dimension, Cl 0, 1\n0x7FF8000000000001 .5");
+    assert_eq!(sheet.shapes(), [Shape::new(2, Flavor::Vanilla), Shape::new(3, Flavor::Projective), Shape::new(1, Flavor::Cl(0, 1, 0))]);
+    let bits = |x: f64| x.to_bits();
+    let (nan, zero) = (0x7FF8 << 48, 0);
+    let expected = [bits(1.0), bits(2.0), bits(-3.5), bits(400.0), nan, 0, 0, 0, 0, bits(7.0), 1 << 63, zero, nan | 1, bits(0.5)];
+    assert_eq!(sheet.patterns(), expected);
+}
+
+#[test]
+fn an_empty_text_is_an_empty_sheet() {
+    assert_eq!(imported("empty", "# nothing here\n\n").to_bytes(), Ok(vec![0; 6]));
+    assert!(imported("nothing", "").is_empty());
+}
+
+#[test]
+fn values_are_listed_with_their_numbers() {
+    let folder = folder("listed");
+    let text = file(&folder, "room.txt", b"left ear : 1 VGA\n1 2\n:0 Cl 4 x\n1");
+    let rig = folder.join("room.rig");
+    let out = run(&["import".as_ref(), text.as_ref(), "-o".as_ref(), rig.as_os_str()]).done();
+    let expected = format!("{}: 2 values, 3 coefficients\n  value 0: left ear: 1 dimension, flavor VGA\n  value 1: (no name): 0 dimensions, flavor Cl4\n", rig.display());
+    assert_eq!(out, expected);
+}
+
+#[test]
+fn faults_have_their_line_and_column() {
+    let folder = folder("faults");
+    let value = "a value starts with a line such as 'left microphone: 3 PGA', and its numbers follow it";
+    let header = "after the colon come the dimensions and the flavor, such as '3 PGA' or '4 Cl 3 0 1'";
+    let flavor = "(write VGA, PGA, or Cl and one to three whole numbers such as Cl 3 0 1)";
+    for (text, says) in [
+        ("1 2 3", format!(":1:1: {value}")),
+        ("# x\n\n   7", format!(":3:4: {value}")),
+        ("mic:", format!(":1:5: {header}")),
+        ("mic: PGA 3", format!(":1:6: {header}")),
+        ("mic: -1 PGA", format!(":1:6: {header}")),
+        ("é:  10 PGA", ":1:5: a value has at most 9 dimensions: '10'".to_string()),
+        ("mic: 999 VGA", ":1:6: a value has at most 9 dimensions: '999'".to_string()),
+        ("mic: 3", format!(":1:7: this is no flavor: '' {flavor}")),
+        ("mic: 3 pga", format!(":1:8: this is no flavor: 'pga' {flavor}")),
+        ("mic: 3 dimensions, flavor Cl\n1", format!(":1:27: this is no flavor: 'Cl' {flavor}")),
+        ("mic: 1 VGA\n", ":1:1: this value has no numbers (a value of zeros is written 1 = 0)".to_string()),
+        ("  mic: 1 VGA\nb: 0 VGA\n1", ":1:3: this value has no numbers (a value of zeros is written 1 = 0)".to_string()),
+        ("mic: 1 VGA\n1 1,5", ":2:3: this is no number: '1,5' (use a point)".to_string()),
+        ("mic: 1 VGA\n1\n\n  2 3", ":4:5: this number is too many: a value of 1 dimension has 2 numbers, and here are 3".to_string()),
+        (" mic: 2 VGA\n1 2 3", ":1:2: a value of 2 dimensions has 4 numbers, and here are 3".to_string()),
+        ("mic: 2 VGA\n e12 1", ":2:2: this is no number: 'e12' (a blade is written with its number: e12 = 0.5)".to_string()),
+        ("mic: 2 VGA\n e12 = 1 e3 = 2", ":2:10: there is no blade 'e3': the blades of this value are 1 e1 e2 e12".to_string()),
+        ("mic: 3 VGA\n e13 = 1", ":2:2: there is no blade 'e13': here this blade is written e31, and its number has the other sign".to_string()),
+        ("mic: 2 VGA\n = 1", ":2:2: before '=' stands the name of a blade, such as e12".to_string()),
+        ("mic: 2 VGA\n e1 =", ":2:2: after the blade 'e1' come '=' and its number".to_string()),
+        ("mic: 2 VGA\n e1 = 1 e2", ":2:9: after the blade 'e2' come '=' and its number".to_string()),
+        ("mic: 2 VGA\n e1 = 1\n e1 = 1", ":3:2: the blade 'e1' is here for the second time".to_string()),
+        ("mic: 2 VGA\n e1 = two", ":2:7: this is no number: 'two'".to_string()),
+    ] {
+        assert_eq!(fault(&folder, text.as_bytes()), says, "{text:?}");
+    }
+    assert_eq!(fault(&folder, b"mic: 0 VGA # \xC3\xA9\n1 # caf\xE9"), ":2:8: the byte 0xE9 is no part of a text (save the file as UTF-8)");
+}
+
+#[test]
+fn limits_are_told_with_their_line() {
+    let folder = folder("limits");
+    let values = |count: usize, dims: u8| -> String { (0..count).map(|index| format!("v{index}: {dims} PGA\n1 = 1\n")).collect() };
+    assert_eq!(fault(&folder, values(65, 0).as_bytes()), ":129:1: a rig sheet has at most 64 values; this is one more");
+    assert_eq!(fault(&folder, values(9, 9).as_bytes()), ":17:1: a rig sheet has at most 4096 numbers; with this value there are 4608");
+    assert_eq!(fault(&folder, &vec![b' '; (4 << 20) + 1]), ": the text is longer than 4194304 bytes");
+    assert_eq!(imported("most-values", &values(64, 6)).patterns().len(), 4096);
+    assert_eq!(imported("largest-values", &values(8, 9)).patterns().len(), 4096);
+}
+
+#[test]
+fn an_old_sheet_stays_until_the_text_is_right() {
+    let folder = folder("old");
+    let rig = file(&folder, "room.rig", b"old");
+    let wrong = file(&folder, "wrong.txt", b"mic: 0 VGA\nx");
+    run(&["import", &wrong, "-o", &rig]).refused();
+    assert_eq!(fs::read(&rig).expect("it is there"), b"old");
+    let right = file(&folder, "right.txt", b"mic: 0 VGA\n1");
+    run(&["import", &right, "-o", &rig]).done();
+    assert_eq!(fs::read(&rig).expect("it is there"), sheet(&[Shape::default()], &[1f64.to_bits()]));
+    let names = fs::read_dir(&folder).expect("a folder").count();
+    assert_eq!(names, 3, "no other file is left");
+}
+
+#[test]
+fn a_sheet_that_cannot_be_written_is_told() {
+    let folder = folder("unwritable");
+    let text = file(&folder, "room.txt", b"mic: 0 VGA\n1");
+    let here = folder.to_str().expect("a plain path");
+    for rig in [here, &format!("{here}/none/room.rig"), "", "/"] {
+        let message = run(&["import", &text, "-o", rig]).refused();
+        assert!(message.starts_with(&format!("{rig}: it cannot be written: ")), "{message}");
+    }
+}
+
+#[cfg(unix)]
+#[test]
+fn links_and_devices_are_written_through() {
+    let folder = folder("links");
+    let text = file(&folder, "room.txt", b"mic: 0 VGA\n1");
+    let (real, link) = (file(&folder, "real.rig", b"old"), folder.join("link.rig"));
+    std::os::unix::fs::symlink("real.rig", &link).expect("a link");
+    run(&["import".as_ref(), text.as_ref(), "-o".as_ref(), link.as_os_str()]).done();
+    assert!(fs::symlink_metadata(&link).expect("it is there").is_symlink());
+    assert_eq!(fs::read(&real).expect("it is there").len(), 19);
+    run(&["import", &text, "-o", "/dev/null"]).done();
+}

@@ -1,0 +1,11 @@
+//! The command `thresholm`, run as its users run it.
+mod checked;
+mod demand;
+mod example;
+mod exact;
+mod fuzz;
+mod imported;
+mod multiplied;
+mod shown;
+mod support;
+mod usage;

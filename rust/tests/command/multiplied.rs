@@ -1,0 +1,122 @@
+//! `thresholm product`: what it prints, and when it refuses.
+use crate::support::{file, folder, run};
+
+/// A sheet of a text's values.
+fn rig(test: &str, text: &str) -> String {
+    let folder = folder(test);
+    let text = file(&folder, "room.txt", text.as_bytes());
+    let rig = folder.join("room.rig").to_str().expect("a plain path").to_string();
+    run(&["import", &text, "-o", &rig]).done();
+    rig
+}
+
+#[test]
+fn a_step_is_printed_with_its_pairs_and_its_bounds() {
+    let rig = rig("step", "a: 2 VGA\n 1 = 0.1 e1 = 2\nb: 2 VGA\n e2 = 3\nc: 2 VGA\n 1 = -0.5 e12 = 4");
+    let expected = "\
+step 1: value 0 times value 1
+  16 contributing pairs; the result has 2 dimensions, flavor VGA:
+  0.30000000000000004e₂ + 6e₁₂
+    e2           0.30000000000000004  within 1.44e-14
+    e12          6                    within 1.76e-14
+    the other 2  0                    within 1.43e-14
+  guaranteed: all within 1.76e-14 of the exact sum
+";
+    assert_eq!(run(&["product", &rig, "0", "1"]).done(), expected);
+    let expected = "\
+step 1: value 1 times value 2
+  16 contributing pairs; the result has 2 dimensions, flavor VGA:
+  ¯12e₁ - 1.5e₂
+    e1           -12   exact
+    e2           -1.5  exact
+    the other 2  0     exact
+  guaranteed: all exact
+step 2: the result of step 1 times value 1
+  16 contributing pairs; the result has 2 dimensions, flavor VGA:
+  ¯4.5 - 36e₁₂
+    1            -4.5  exact
+    e12          -36   exact
+    the other 2  0     exact
+  guaranteed: all exact
+whole product: exact, since every step is
+";
+    assert_eq!(run(&["product", &rig, "1", "2", "1"]).done(), expected);
+}
+
+/// The last line of a product.
+fn last(rig: &str, indices: &[&str]) -> String {
+    let out = run(&[&["product", rig], indices].concat()).done();
+    out.lines().last().expect("a line").to_string()
+}
+
+#[test]
+fn the_whole_follows_from_its_steps() {
+    let rig = rig("whole", "a: 1 VGA\n 1 2\nb: 1 VGA\n 0.1 1\nc: 1 VGA\n 3 4");
+    assert_eq!(last(&rig, &["0", "2", "0"]), "whole product: exact, since every step is");
+    assert_eq!(last(&rig, &["0", "2", "1"]), "whole product: step 2 says how near, since every step before it is exact");
+    let each = "whole product: each step's bound is about that step alone, with the result of the step before it as it stands";
+    assert_eq!(last(&rig, &["1", "2", "0"]), each);
+    assert_eq!(last(&rig, &["0", "1", "2", "0"]), each);
+    assert_eq!(last(&rig, &["0", "2"]), "  guaranteed: all exact");
+}
+
+#[test]
+fn unlike_factors_are_brought_together_first() {
+    let rig = rig("unlike", "a: 1 VGA\n 1 2\nb: 1 PGA\n 3 4\nc: 2 Cl 0 1\n 1 = 1 e1 = 2");
+    let expected = "\
+step 1: value 0 times value 1
+  value 0 (1 dimension, flavor VGA) is first brought to 2 dimensions, flavor PGA
+  value 1 (1 dimension, flavor PGA) is first brought to 2 dimensions, flavor PGA
+  12 contributing pairs; the result has 2 dimensions, flavor PGA:
+  3 + 4e₀ + 6e₁ - 8e₀₁
+    1    3   exact
+    e0   4   exact
+    e1   6   exact
+    e01  -8  exact
+  guaranteed: all exact
+";
+    assert_eq!(run(&["product", &rig, "0", "1"]).done(), expected);
+    let out = run(&["product", &rig, "0", "2"]).done();
+    assert!(out.contains("  value 2 (2 dimensions, flavor Cl 0 1) is first brought to 2 dimensions, flavor VGA\n"), "{out}");
+    assert!(out.contains("  5 + 4e₁\n"), "the left one's metric is used: {out}");
+}
+
+#[test]
+fn where_nothing_is_guaranteed_the_reason_is_said() {
+    let rig = rig("open", "a: 1 VGA\n 1 nan\nb: 1 VGA\n inf 1\nc: 1 VGA\n 1e200 0\nd: 1 VGA\n 1e-200 0.1\ne: 0 VGA\n 1e130\nf: 1 VGA\n 0.5 0\ng: 1 VGA\n 1 2e120\nh: 1 VGA\n 0 1");
+    let since = |who: &str, what: &str| format!("  no bound is guaranteed, since {who} has {what}: sizes must be 0 or from 2^-400 to 2^400\n");
+    for (indices, reasons, summary) in [
+        (["0", "5"], vec![since("value 0", "NaN at e1")], "nothing"),
+        (["5", "1"], vec![since("value 1", "inf at 1")], "nothing"),
+        (["2", "3"], vec![since("value 2", "1e200 at 1"), since("value 3", "1e-200 at 1")], "nothing"),
+        (["6", "4"], vec![since("value 4", "1e130 at 1")], "nothing"),
+        (["6", "7"], vec![], "1 of 2 exact, the others within 6.67e104 of the exact sum"),
+        (["2", "7"], vec![since("value 2", "1e200 at 1")], "1 of 2 exact, nothing of the others"),
+    ] {
+        let out = run(&["product", &rig, indices[0], indices[1]]).done();
+        assert!(reasons.iter().all(|reason| out.contains(reason)), "{out}");
+        assert_eq!(out.matches("no bound is guaranteed").count(), reasons.len(), "{out}");
+        assert!(out.ends_with(&format!("  guaranteed: {summary}\n")), "{out}");
+    }
+    let out = run(&["product", &rig, "2", "7"]).done();
+    assert!(out.contains("    e1           1e200  no bound\n    the other 1  0      exact\n"), "{out}");
+}
+
+#[test]
+fn a_refusal_has_its_number_and_its_step() {
+    let rig = rig("refused", "a: 9 VGA\n 1 = 1\nb: 1 PGA\n 1 2\nc: 0 VGA\n 1");
+    let refused = "refused with 1: a value here or in the result would have more than 9 dimensions\n";
+    assert_eq!(run(&["product", &rig, "0", "1"]).refused(), format!("{rig}: step 1: value 0 times value 1: {refused}"));
+    assert_eq!(run(&["product", &rig, "2", "0", "1"]).refused(), format!("{rig}: step 2: the result of step 1 times value 1: {refused}"));
+    assert_eq!(run(&["product", &rig, "0", "3"]).refused(), format!("{rig}: there is no value 3: they are numbered from 0 to 2\n"));
+    assert_eq!(run(&["product", &rig, "18446744073709551615", "0"]).refused(), format!("{rig}: there is no value 18446744073709551615: they are numbered from 0 to 2\n"));
+    let none = file(&folder("none"), "none.rig", &[0; 6]);
+    assert_eq!(run(&["product", &none, "0", "0"]).refused(), format!("{none}: there is no value 0: the sheet has none\n"));
+}
+
+#[test]
+fn the_name_that_is_printed_turned_round_is_noted() {
+    let rig = rig("turned-product", "a: 4 PGA\n e0 = 1\nb: 4 PGA\n e2 = 1");
+    let out = run(&["product", &rig, "0", "1"]).done();
+    assert!(out.contains("  e₂₀\n  in the line above e₂₀ stands for e02\n    e02           1  exact\n"), "{out}");
+}

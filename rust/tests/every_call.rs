@@ -1,0 +1,199 @@
+//! Every exported call is reached, and answers rightly. The names that are declared and the names that are called here are the same.
+use std::cmp::Ordering;
+use std::collections::BTreeSet;
+use thresholm::{Error, Flavor, ScalarTest, Shape, lent};
+
+type Names = BTreeSet<&'static str>;
+
+/// Makes a call, holds its answer against the expected one, and notes its name.
+macro_rules! call {
+    ($names:ident, $call:ident($($argument:expr),*) => $expected:expr) => {
+        assert_eq!(lent::$call($($argument),*), $expected, stringify!($call));
+        $names.insert(stringify!($call));
+    };
+}
+
+/// Makes a call whose numbers go to an output of one more, and holds those too.
+macro_rules! call_to {
+    ($names:ident, $call:ident($($argument:expr),*) => $expected:expr, $numbers:expr) => {
+        let numbers = $numbers.to_vec();
+        let mut out = vec![77.0; numbers.len() + 1];
+        assert_eq!(lent::$call($($argument,)* &mut out), $expected, stringify!($call));
+        assert_eq!(out.pop(), Some(77.0), stringify!($call));
+        assert_eq!(out, numbers, stringify!($call));
+        $names.insert(stringify!($call));
+    };
+}
+
+const V: Flavor = Flavor::Vanilla;
+const P: Flavor = Flavor::Projective;
+const CL: Flavor = Flavor::Cl(3, 1, 1);
+const PLANE: Shape = Shape::new(2, V);
+const LINE: Shape = Shape::new(1, V);
+const A: [f64; 4] = [1.0, 2.0, 3.0, 4.0];
+const B: [f64; 4] = [5.0, 6.0, 7.0, 8.0];
+
+fn refusals(names: &mut Names) {
+    call!(names, refusal_of(2, 3, 4, 7, 8) => Err(Error::NoRoom));
+    call!(names, value_refusal(2, 5) => Err(Error::WrongCount));
+    call!(names, pair_refusal(2, 2, 10, 4, 4, 4) => Err(Error::TooManyDims));
+    call!(names, refused(Error::Planar) => Err(Error::Planar));
+    call!(names, done(Shape::new(200, CL)) => Ok(Shape::new(200, CL)));
+}
+
+fn flavors(names: &mut Names) {
+    call!(names, metric(CL, 0) => 0);
+    call!(names, metric(CL, 1) => -1);
+    call!(names, metric(CL, 2) => 1);
+    call!(names, null_flavor() => Flavor::NULL);
+    call!(names, added_dims(P) => 1);
+    call!(names, promotion(V, P) => 1);
+    call!(names, try_from_str(b"Cl 3,1\t1 ") => Ok(CL));
+    let mut text = [0; 15];
+    call!(names, write_to(Flavor::Cl(255, 255, 255), &mut text) => Ok(14));
+    assert_eq!(&text, b"Cl 255 255 255\0");
+}
+
+fn orders(names: &mut Names) {
+    call!(names, blade_count(9) => 512);
+    call!(names, blade_count(10) => 0);
+    call!(names, grade_size(9, 4) => Ok(126));
+    let (mut masks, mut places) = ([9; 9], [9; 9]);
+    call!(names, order_of(3, &mut masks, &mut places) => Ok(8));
+    assert_eq!(masks, [0, 1, 2, 4, 3, 5, 6, 7, 9]);
+    assert_eq!(places, [0, 1, 2, 4, 3, 5, 6, 7, 9]);
+}
+
+fn shapes(names: &mut Names) {
+    call!(names, shape_of([2, 200, 3, 1, 1]) => Shape::new(2, CL));
+    call!(names, shape_of([2, 1, 3, 1, 1]) => Shape::new(2, P));
+    call!(names, with_dims(PLANE, 77) => Shape::new(77, V));
+    call!(names, with_flavor(PLANE, P) => Shape::new(2, P));
+    call_to!(names, set_dims(PLANE, 1, &A) => Ok(LINE), [1.0, 2.0]);
+    let promoted = [1.0, 0.0, 2.0, 3.0, 0.0, 0.0, 4.0, 0.0];
+    let space = Shape::new(3, P);
+    call_to!(names, set_flavor(PLANE, P, &A) => Ok(space), promoted);
+    call_to!(names, conform_to(PLANE, Shape::new(0, P), &A) => Ok(space), promoted);
+    let (mut out, mut right) = ([77.0; 5], [77.0; 5]);
+    let met = Ok((PLANE, PLANE));
+    call!(names, conform(PLANE, LINE, &A, &[5.0, 6.0], &mut out, &mut right) => met);
+    assert_eq!(out, [1.0, 2.0, 3.0, 4.0, 77.0]);
+    assert_eq!(right, [5.0, 6.0, 0.0, 0.0, 77.0]);
+}
+
+fn blades(names: &mut Names) {
+    call!(names, get_blade(PLANE, 2, &A) => Ok(3.0));
+    call!(names, get_blade(PLANE, 512, &A) => Ok(0.0));
+    call_to!(names, set_blade(LINE, 2, 9.0, &[1.0, 2.0]) => Ok(PLANE), [1.0, 2.0, 9.0, 0.0]);
+    call!(names, grade_refusal(PLANE, 3, &A) => Err(Error::NoSuchGrade));
+    call!(names, grade_refusal(PLANE, 2, &A) => Ok(()));
+    call!(names, grade(PLANE, 1, &A) => Ok(&A[1..3]));
+}
+
+fn builders(names: &mut Names) {
+    call_to!(names, vector(&[5.0, 7.0], V) => Ok(PLANE), [0.0, 5.0, 7.0, 0.0]);
+    let bivector = [0.0, 0.0, 0.0, 0.0, 5.0, 6.0, 7.0, 0.0];
+    call_to!(names, n_1_blades(&[5.0, 6.0, 7.0], CL) => Ok(Shape::new(3, CL)), bivector);
+    call_to!(names, scalar(1, 5.0, P) => Ok(Shape::new(2, P)), [5.0, 0.0, 0.0, 0.0]);
+    call_to!(names, pseudoscalar(1, 5.0, P) => Ok(Shape::new(2, P)), [0.0, 0.0, 0.0, 5.0]);
+    call_to!(names, blades_left(2, &[5.0, 7.0], P) => Ok(Shape::new(2, P)), [5.0, 0.0, 0.0, 7.0]);
+    call_to!(names, blades_right(2, &[5.0, 7.0], P) => Ok(Shape::new(2, P)), [0.0, 5.0, 7.0, 0.0]);
+    call_to!(names, blades_right(2, &A, P) => Ok(PLANE), A);
+}
+
+fn unpackings(names: &mut Names) {
+    call_to!(names, unpack_all(PLANE, 1, &A) => Ok(2), [1.0, 2.0]);
+    call_to!(names, unpack_even(PLANE, 2, &A) => Ok(2), [1.0, 4.0]);
+    call_to!(names, unpack_odd(PLANE, 2, &A) => Ok(2), [2.0, 3.0]);
+    call_to!(names, unpack_own_even(PLANE, &A) => Ok(2), [1.0, 4.0]);
+    call_to!(names, unpack_own_odd(PLANE, &A) => Ok(2), [2.0, 3.0]);
+    call_to!(names, unpack_vector(PLANE, &A) => Ok(2), [2.0, 3.0]);
+    call_to!(names, unpack_vector(Shape::new(0, V), &[1.0]) => Ok(0), []);
+}
+
+fn products(names: &mut Names) {
+    call_to!(names, general_product(PLANE, PLANE, &A, &B) => Ok((PLANE, 16)), [6.0, 20.0, 14.0, 24.0]);
+    call_to!(names, left_contraction(PLANE, PLANE, &A, &B) => Ok((PLANE, 9)), [6.0, -18.0, 23.0, 8.0]);
+    call_to!(names, right_contraction(PLANE, PLANE, &A, &B) => Ok((PLANE, 9)), [6.0, 38.0, -9.0, 20.0]);
+    call_to!(names, inner_product(PLANE, PLANE, &A, &B) => Ok((PLANE, 14)), [6.0, 20.0, 14.0, 28.0]);
+    call_to!(names, outer_product(PLANE, PLANE, &A, &B) => Ok((PLANE, 9)), [5.0, 16.0, 22.0, 24.0]);
+}
+
+fn operators(names: &mut Names) {
+    call_to!(names, mul(PLANE, LINE, &A, &[0.0, 1.0]) => Ok(PLANE), [2.0, 1.0, -4.0, -3.0]);
+    call_to!(names, mul(PLANE, LINE, &A, &[2.0, 0.0]) => Ok(PLANE), [2.0, 4.0, 6.0, 8.0]);
+    call_to!(names, add(PLANE, LINE, &A, &[5.0, 6.0]) => Ok(PLANE), [6.0, 8.0, 3.0, 4.0]);
+    call_to!(names, sub(PLANE, LINE, &A, &[5.0, 6.0]) => Ok(PLANE), [-4.0, -4.0, 3.0, 4.0]);
+    call_to!(names, div(PLANE, LINE, &A, &[0.0, 2.0]) => Ok(PLANE), [1.0, 0.5, -2.0, -1.5]);
+    call_to!(names, mul_f64(PLANE, 2.0, &A) => Ok(PLANE), [2.0, 4.0, 6.0, 8.0]);
+    call_to!(names, div_f64(PLANE, 2.0, &A) => Ok(PLANE), [0.5, 1.0, 1.5, 2.0]);
+    call_to!(names, neg(PLANE, &A) => Ok(PLANE), [-1.0, -2.0, -3.0, -4.0]);
+}
+
+fn values(names: &mut Names) {
+    call_to!(names, reverse(PLANE, &A) => Ok(PLANE), [1.0, 2.0, 3.0, -4.0]);
+    call_to!(names, inv_reverse(PLANE, &A) => Ok(PLANE), [-1.0, -2.0, -3.0, 4.0]);
+    call_to!(names, dual(PLANE, &A) => Ok(PLANE), [-4.0, -3.0, 2.0, 1.0]);
+    call_to!(names, antidual(PLANE, &A) => Ok(PLANE), [-4.0, 3.0, -2.0, 1.0]);
+    let met = [-11.0, 10.0, 27.0, -20.0];
+    call_to!(names, regressive_product(LINE, PLANE, &[3.0, 5.0], &A) => Ok(PLANE), met);
+    call_to!(names, inverted(LINE, &[3.0, 1.0]) => Ok(LINE), [0.375, -0.125]);
+    call_to!(names, powi(LINE, 3, &[2.0, 1.0]) => Ok(LINE), [14.0, 13.0]);
+    call_to!(names, make_scalar_only(PLANE, &A) => Ok(PLANE), [1.0, 0.0, 0.0, 0.0]);
+    call_to!(names, take_scalar(PLANE, &A) => Ok((PLANE, 1.0)), [0.0, 2.0, 3.0, 4.0]);
+    call!(names, squared_magnitude(PLANE, &A) => Ok(30.0));
+    call!(names, scalar_test(LINE, &[2.0, -0.0]) => Ok(ScalarTest::Scalar(2.0)));
+    let planar = ScalarTest::Planar { re: 2.0, im: 3.0 };
+    call!(names, scalar_test(PLANE, &[2.0, 0.0, 0.0, 3.0]) => Ok(planar));
+    call!(names, scalar_test(PLANE, &A) => Ok(ScalarTest::Neither));
+}
+
+fn comparisons(names: &mut Names) {
+    call!(names, eq(PLANE, PLANE, &A, &B) => Ok(true));
+    call!(names, eq(LINE, LINE, &[1.0, 0.0], &[2.0, 0.0]) => Ok(false));
+    call!(names, cmp(PLANE, PLANE, &A, &B) => Ok(Ordering::Less));
+    call!(names, cmp(PLANE, LINE, &A, &[5.0, 6.0]) => Ok(Ordering::Greater));
+    call!(names, cmp(PLANE, PLANE, &A, &A) => Ok(Ordering::Equal));
+}
+
+fn sheets(names: &mut Names) {
+    let (shapes, patterns) = ([0, 0, 0, 0, 0, 0, 2, 3, 1, 1], [0x3FF0_0000_0000_0000, 7]);
+    let mut bytes = [0; 32];
+    call!(names, write(&shapes, &patterns, &mut bytes) => Ok(32));
+    assert_eq!(bytes[2..12], shapes);
+    let mut out = [9; 3];
+    call!(names, read(&bytes, &mut out) => Ok((2, 2)));
+    assert_eq!(out, [0x3FF0_0000_0000_0000, 7, 9]);
+    call!(names, value_at(&shapes, 1) => Ok((Shape::new(0, CL), 1)));
+    call_to!(names, numbers_of(&patterns) => Ok(2), [1.0, f64::from_bits(7)]);
+    call!(names, patterns_of(&[1.0, f64::NAN], &mut out) => Ok(2));
+    assert_eq!(out, [0x3FF0_0000_0000_0000, 0x7FF8_0000_0000_0000, 9]);
+}
+
+#[test]
+fn every_declared_call_is_reached() {
+    let mut names = Names::new();
+    for group in [
+        refusals,
+        flavors,
+        orders,
+        shapes,
+        blades,
+        builders,
+        unpackings,
+        products,
+        operators,
+        values,
+        comparisons,
+        sheets,
+    ] {
+        group(&mut names);
+    }
+    let declared: Names = include_str!("../src/sys.rs")
+        .split("pub fn thresholm_")
+        .skip(1)
+        .filter_map(|rest| rest.split('(').next())
+        .collect();
+    assert_eq!(declared.len(), 67);
+    assert_eq!(names, declared);
+}
