@@ -1,4 +1,4 @@
--- Demand 3's theorems, applied: to values of two dimensions of which no coefficient is zero, so that none of the theorems speaks of nothing. Assumes nothing.
+-- Demand 3's theorems, applied to values of at most two dimensions, so that none of the theorems speaks of nothing; no coefficient of a, b, c and wide is zero. Assumes nothing.
 use mathlib.Core.Path.{_≡_, refl, ap, _∙_}
 use mathlib.Core.Bool.{Bool, true, false, _&&_}
 use mathlib.Core.List.{List, [], _∷_, map}
@@ -22,7 +22,8 @@ use Rattle.masks.specs.declared.flavor.Flavor.the-variants.{Vanilla, Projective
 use Rattle.masks.specs.declared.shape.Shape.{Shape}
 use Rattle.masks.specs.Order.{order, place, upFrom, grade, below, size, start, rank}
 use Rattle.masks.specs.Flavors.{metricOf}
-use Rattle.masks.specs.Outcome.{shapeOf}
+use Rattle.masks.specs.Outcome.{shapeOf, unless, refusal}
+use Rattle.masks.specs.Shapes.{nought, coef, turnedMask, resized, promotes, promoted, conform, conformed, conformedShape}
 use Rattle.masks.proofs.Computed.{upto, upto-at, both}
 use Rattle.product.specs.declared.mode.Mode.{Mode}
 use Rattle.product.specs.declared.mode.Mode.the-variants.{All, Left, Right, Inner, Outer}
@@ -32,9 +33,11 @@ use Rattle.product.specs.Gathered.{gathered, sumAt}
 use Rattle.product.specs.Products.{Counted, multiplied}
 use Rattle.product.specs.Accuracy.{contributes, contributing, exactSizes, exactSum, Holds, Fitting, InBounds, LiesWithin, ExactCase, IsExactly, EqualNumbers, times}
 use Rattle.product.specs.Reverse.{reversed}
+use Rattle.product.proofs.RefusalLaws.{refused-by}
 use Rattle.product.proofs.MultipliedLaws.{multiplied-same}
+use Rattle.product.proofs.ConformedLaws.{as-conformed}
 use Rattle.product.proofs.GatherLaws.{product-gathered}
-use Rattle.product.proofs.AccuracyLaws.{bound, exact}
+use Rattle.product.proofs.AccuracyLaws.{bound, exact-at, exact}
 use Rattle.product.proofs.GroupingLaws.{grouping, reversing}
 
 -- ---- the values
@@ -215,3 +218,34 @@ module _ (n : ℕ) where
 
   reversed-either-way : EqualNumbers 2 (reversed 2 (times (plane f) 4 a b)) (times (plane f) 4 (reversed 2 b) (reversed 2 a))
   reversed-either-way = reversing (plane f) 4 (fitting f) a b a-holds b-holds (ab-exact All)
+
+-- ---- one coefficient alone is exact
+
+-- 2 ^ 53, 1, 0 and 0
+large : List Float
+large = fin false 1 (pos 53) ∷ fin false 1 (pos 0) ∷ nought ∷ nought ∷ []
+
+-- 2, 0, 0 and 0
+two : List Float
+two = fin false 1 (pos 1) ∷ nought ∷ nought ∷ nought ∷ []
+
+-- The T of coefficient 0 is 2 ^ 54, above the 2 ^ 53 of the exact case, and that of coefficient 1 is 2.
+sizes : (exactSizes All Vanilla 2 0 0 0 large two ≡ 2 ^ 54) × (exactSizes All Vanilla 2 1 0 0 large two ≡ 2)
+unfolding exactSizes contributes metricAt placeAt pairMetric takes flavorFor metric swaps shared turned has total count sign pow one metricOf order place grade below size start rank ones onesIn large two
+sizes = (refl, refl)
+
+exactly-at : IsExactly 0 (getD (times (plane Vanilla) 4 large two) 1 nan) (exactSum All Vanilla 2 1 0 0 large two)
+exactly-at =
+    exact-at All (plane Vanilla) 4 large two (fitting Vanilla) (holds large (unfold isValue large fits in tt)) (holds two (unfold isValue two fits in tt)) 0 0 (lit≤ tt)
+    (λ i h. multiple 0 (getD large i nan) (upto-at (λ i. isMultiple 0 (getD large i nan)) 4 i (unfold isMultiple large in tt) h))
+    (λ i h. multiple 0 (getD two i nan) (upto-at (λ i. isMultiple 0 (getD two i nan)) 4 i (unfold isMultiple two in tt) h))
+    1 (lit≤ tt) (rw (sizes .1) (lit≤ tt))
+
+-- ---- two values that have to be conformed
+
+-- Vanilla 3, 4 by Projective 0.5, of one dimension and of none, is Projective 3, 0, 4, 0 by 0.5, 0, 0, 0.
+conformed-first : (mode : Mode)
+    → multiplied mode (shapeOf 1 Vanilla) (shapeOf 0 Projective) (fin false 3 (pos 0) ∷ fin false 1 (pos 2) ∷ []) (fin false 1 (negsuc 0) ∷ []) 4
+    ≡ multiplied mode (plane Projective) (plane Projective) (fin false 3 (pos 0) ∷ nought ∷ fin false 1 (pos 2) ∷ nought ∷ []) (fin false 1 (negsuc 0) ∷ nought ∷ nought ∷ nought ∷ []) 4
+unfolding conform conformed conformedShape resized promoted promotes turnedMask coef unless refusal order below grade place start size rank ones onesIn
+conformed-first mode = as-conformed mode (shapeOf 1 Vanilla) (shapeOf 0 Projective) _ _ 4 (refused-by mode (shapeOf 1 Vanilla) (shapeOf 0 Projective) _ _ 4)

@@ -2,7 +2,7 @@
 use mathlib.Core.Path.{_≡_, refl, sym, ap, _∙_}
 use mathlib.Core.Bool.{Bool, true, false, cond}
 use mathlib.Core.List.{List}
-use Prim.Native.Nat.{ℕ, zero, suc, _+_, _-_, _*_, _^_, _<_}
+use Prim.Native.Nat.{ℕ, zero, suc, _+_, _-_, _*_, _^_, _≤_, _<_}
 use native.Mathlib.Nat.{le-trans}
 use native.Mathlib.Omega.{arith}
 use borrow.Author.Tests.{ltb-true, ltb-false}
@@ -95,13 +95,17 @@ module _ (mode : Mode) (s : Shape) (room : ℕ) (a b : List Float) (t : Fitting 
       (near-difference binary64 904 _ _ _ _
       (demand-bound binary64 (terms k) (2 ^ d) (le-trans (count-le (terms k) (2 ^ d)) (blades-le d (t .small))) (λ j l _. in-range x y k h j l)))
 
+  -- A coefficient whose T is at most 2 ^ 53 units of 2 ^ -(p + q) is the exact sum, whatever the T of the others.
+  pub exact-at : (p q : ℕ) → p + q ≤ 46 → Multiples p (s .dims) a → Multiples q (s .dims) b → (k : ℕ) → k < 2 ^ s .dims → exactSizes mode (s .flavor) (s .dims) k p q a b ≤ 2 ^ 53
+      → IsExactly (p + q) (getD (multiplied mode s s a b room .outcome .coefs) k nan) (exactSum mode (s .flavor) (s .dims) k p q a b)
+  exact-at p q fine x y k h small =
+      let f = s .flavor in
+      let d = s .dims in
+      rw (coefficient k h, exact-sum-parts mode f d k h a b p q)
+      (exactly _ _ _ _
+      (demand-exact binary64 p q (terms k) (2 ^ d) fine (λ j l _. on-grid p q x y k h j l) (rw (← exact-sizes-total mode f d k h a b p q) small)))
+
   -- In the exact case each coefficient is the exact sum.
   pub exact : (c : ExactCase mode (s .flavor) (s .dims) a b) (k : ℕ) → k < 2 ^ s .dims
       → IsExactly (c .p + c .q) (getD (multiplied mode s s a b room .outcome .coefs) k nan) (exactSum mode (s .flavor) (s .dims) k (c .p) (c .q) a b)
-  exact c k h =
-      let f = s .flavor in
-      let d = s .dims in
-      rw (coefficient k h, exact-sum-parts mode f d k h a b (c .p) (c .q))
-      (exactly _ _ _ _
-      (demand-exact binary64 (c .p) (c .q) (terms k) (2 ^ d) (c .fine) (λ j l _. on-grid (c .p) (c .q) (c .left) (c .right) k h j l)
-      (rw (← exact-sizes-total mode f d k h a b (c .p) (c .q)) (c .small k h))))
+  exact c k h = exact-at (c .p) (c .q) (c .fine) (c .left) (c .right) k h (c .small k h)

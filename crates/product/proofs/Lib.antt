@@ -5,6 +5,7 @@ pub mod ZeroLaws
 pub mod PairsTotal
 pub mod GatherLaws
 pub mod MultipliedLaws
+pub mod ConformedLaws
 pub mod AccuracyLaws
 pub mod GroupingLaws
 pub mod AlgebraLaws
