@@ -14,6 +14,9 @@ static const uint64_t three_patterns[3] = {0x3FF0000000000000u, 0xFFF00000000000
 static const uint8_t two_values[40] = {2, 0, 1, 2, 3, 1, 1, 0, 1, 0, 0, 0, 3, 0, 0, 0, 0, 0, 0, 0, 0, 0, 0xF0, 0x3F,
                                        1, 0, 0, 0, 0, 0, 0xF0, 0xFF, 0, 0, 0, 0, 0, 0, 0, 0x80};
 
+/* Shapes of no and of ten dimensions, and a byte past the last five. */
+static const uint8_t above[11] = {0, 0, 0, 0, 0, 10, 0, 0, 0, 0, 0};
+
 #define TO_COUNTS &told.shapes, &told.count
 
 static void sheets_read(void) {
@@ -64,9 +67,9 @@ static void sheets_written(void) {
 static void sheets_refused(void) {
     static uint64_t patterns[4608];
     static uint8_t shapes[65 * 5];
-    static const uint8_t above[10] = {0, 0, 0, 0, 0, 10, 0, 0, 0, 0};
-    CALL(2, write, above, 9, LENT(one), told.bytes, 0, &told.count);
-    CALL(1, write, LENT(above), LENT(one), told.bytes, 0, &told.count);
+    CALL(2, write, above, 9, LENT(one), told.bytes, 0, &told.count); /* the ten stands past the last five */
+    CALL(1, write, above, 10, LENT(one), told.bytes, 0, &told.count);
+    CALL(1, write, above, 11, LENT(one), told.bytes, 0, &told.count); /* 1 and 2: the lowest */
     CALL(2, write, LENT(two_shapes), three_patterns, 2, told.bytes, 0, &told.count);
     CALL(2, write, LENT(shapes), patterns, 65, told.bytes, 0, &told.count);
     CALL(3, write, LENT(two_shapes), LENT(three_patterns), told.bytes, 39, &told.count);
@@ -77,7 +80,6 @@ static void sheets_refused(void) {
 }
 
 static void values_of_a_sheet(void) {
-    static const uint8_t above[10] = {0, 0, 0, 0, 0, 10, 0, 0, 0, 0};
     want_shape(1, CL(3, 1, 1));
     want.start = 0;
     CALL(0, value_at, LENT(two_shapes), 0, TO_SHAPE, &told.start);
@@ -85,7 +87,8 @@ static void values_of_a_sheet(void) {
     want.start = 2;
     CALL(0, value_at, two_values + 2, 10, 1, TO_SHAPE, &told.start);
     CALL(2, value_at, above, 9, 0, TO_SHAPE, &told.start);
-    CALL(1, value_at, LENT(above), 2, TO_SHAPE, &told.start);
+    CALL(1, value_at, above, 10, 2, TO_SHAPE, &told.start);
+    CALL(1, value_at, above, 11, 0, TO_SHAPE, &told.start);
     CALL(2, value_at, LENT(two_shapes), 2, TO_SHAPE, &told.start);
     CALL(2, value_at, two_shapes, 0, 0, TO_SHAPE, &told.start);
 }

@@ -1,27 +1,30 @@
 -- Laws of the calls on sheets: where a list of shapes is refused by its bytes, what five bytes say, and where the shapes of a sheet stand in it. Assumes nothing.
 use mathlib.Core.Path.{_≡_, refl, sym, ap, _∙_, subst}
-use mathlib.Core.Bool.{not}
+use mathlib.Core.Bool.{Bool, true, false, cond}
 use mathlib.Core.List.{List, [], _∷_, _++_, append-assoc}
 use Prim.Native.Nat.{ℕ, _+_, _*_, _%_, _<_}
 use native.Mathlib.Nat.{add-zero}
 use native.Mathlib.Omega.{arith}
-use borrow.Author.Tests.{eq-eqb, ne-eqb}
-use lib.ListN.{length, getD, take, drop}
+use borrow.Author.Tests.{eq-eqb, ne-eqb, le-leb}
+use lib.ListN.{length, getD, take, drop, length-take}
 use lib.Seq.{getD-take, getD-drop, take-at, drop-at}
 use Rattle.masks.specs.declared.shape.Shape.{Shape}
-use Rattle.masks.specs.Outcome.{refusal, refusedList}
-use Rattle.masks.proofs.RefusalLaws.{refused-first, unless-refused, unless-done}
+use Rattle.masks.specs.Outcome.{Test, refusal, unless, refusedList}
+use Rattle.masks.proofs.RefusalLaws.{unless-refused, unless-number}
 use Rattle.sheets.specs.declared.read.SheetRead.{SheetRead}
+use Rattle.sheets.specs.declared.shapes.Shapes.{Shapes}
+use Rattle.sheets.specs.declared.shapes.Placed.{Placed}
 use Rattle.sheets.specs.Bytes.{littleEndian, allBytes, section}
-use Rattle.sheets.specs.Format.{Sheet, shapeBytes, patternBytes, sheetBytes}
+use Rattle.sheets.specs.Format.{Sheet, anyAboveNine, shapeBytes, patternBytes, sheetBytes}
 use Rattle.sheets.specs.Reading.{shapeFrom, readSheet, Reads}
+use Rattle.sheets.specs.Shapes.{listedShapes}
 use Rattle.sheets.specs.Values.{valueAt, refusedPlace}
 use Rattle.sheets.specs.Writing.{writeSheet}
 use Rattle.sheets.proofs.BytesLaws.{littleEndian-length, allBytes-length}
 use Rattle.sheets.proofs.FormatLaws.{shapeBytes-length}
 use Rattle.sheets.proofs.RoundTrips.{sound}
 use Rattle.exports.specs.Numbers.{shaped}
-use Rattle.exports.specs.Parts.{saidShapes, notFives, writeFrom, valueFrom, TellsCounts, TellsSheet}
+use Rattle.exports.specs.Parts.{saidShapes, fivesTests, writeFrom, valueFrom, TellsCounts, TellsSheet}
 
 -- ---- what five bytes say
 
@@ -36,31 +39,58 @@ shape-of-five b at e =
     rw (byte-of b at 0 (omega arith), byte-of b at 1 (omega arith), byte-of b at 2 (omega arith), byte-of b at 3 (omega arith), byte-of b at 4 (omega arith), add-zero at)
     e
 
--- ---- a list of shapes is refused with 2 where its bytes are no fives
+-- ---- where no value of a sheet is, a value is refused
 
-module _ (b : List ℕ) where
-  not-fives : (length b % 5 ≡ 0 → ⊥) → refusal (notFives b ∷ []) ≡ 2
-  not-fives h = refused-first (notFives b) [] (ap not (ne-eqb (length b % 5) 0 h))
+-- The value past all that may be listed is refused with 1 where a dimension is above 9, and else with 2.
+pub value-nowhere : (s : Shapes) → length (s .held) ≡ 64 → valueAt s 64 .number ≡ cond (anyAboveNine (listedShapes s)) 1 2
+unfolding valueAt refusal
+value-nowhere s e =
+    unless-number (λ (p : Placed). p .number) refusedPlace _ _ refl refl
+    ∙ rw (le-leb (length (listedShapes s)) 64 (omega (arith, length-take (s .count) (s .held))))
 
-  fives : length b % 5 ≡ 0 → refusal (notFives b ∷ []) ≡ 0
+-- ---- a list of shapes is refused with 1 where a dimension is above 9, and else with 2 where its bytes are no fives
+
+-- A first test that fails with 1 may be tried once more.
+tried-again : {A : Type 0} (f : ℕ → A) (above : Bool) (ts : List Test) (a : A) → unless f (refusal (record { fails = above; number = 1 } ∷ [])) (unless f (refusal (record { fails = above; number = 1 } ∷ ts)) a) ≡ unless f (refusal (record { fails = above; number = 1 } ∷ ts)) a
+unfolding refusal unless
+tried-again f true ts a = refl
+tried-again f false ts a = refl
+
+-- The number that shapes whose bytes are no fives are refused with.
+abbrev pub NotFives : Shapes → ℕ → Type 0
+NotFives ss n = n ≡ cond (anyAboveNine (listedShapes ss)) 1 2
+
+pub not-fives-refused : (ss : Shapes) (n : ℕ) → NotFives ss n → n ≡ 0 → ⊥
+not-fives-refused ss n e z = go (anyAboveNine (listedShapes ss)) e
+  where
+    go : (above : Bool) → n ≡ cond above 1 2 → ⊥
+    go true q = omega arith
+    go false q = omega arith
+
+module _ (b : List ℕ) (ss : Shapes) (said : ss ≡ saidShapes b) where
+  not-fives : (n : ℕ) → NotFives ss n → (length b % 5 ≡ 0 → ⊥) → n ≡ refusal (fivesTests b)
   unfolding refusal
-  fives h = rw (eq-eqb (length b % 5) 0 h)
+  not-fives n e h = rw (ne-eqb (length b % 5) 0 h, ← said) e
 
-  pub write-refused : (xs : List ℕ) (room : ℕ) → (length b % 5 ≡ 0 → ⊥) → writeFrom b xs room ≡ refusedList 2
+  fives : length b % 5 ≡ 0 → refusal (fivesTests b) ≡ refusal (record { fails = anyAboveNine (listedShapes ss); number = 1 } ∷ [])
+  unfolding refusal
+  fives h = rw (eq-eqb (length b % 5) 0 h, ← said)
+
+  pub write-refused : (xs : List ℕ) (room n : ℕ) → NotFives ss n → (length b % 5 ≡ 0 → ⊥) → refusedList n ≡ writeFrom b xs room
   unfolding writeFrom
-  write-refused xs room h = unless-refused refusedList _ 2 _ (sym (not-fives h)) (λ q. omega arith)
+  write-refused xs room n e h = sym (unless-refused refusedList _ n _ (not-fives n e h) (not-fives-refused ss n e))
 
-  pub write-done : (xs : List ℕ) (room : ℕ) → length b % 5 ≡ 0 → writeFrom b xs room ≡ writeSheet (saidShapes b) xs room
-  unfolding writeFrom
-  write-done xs room h = unless-done refusedList _ 0 _ (sym (fives h)) refl
+  pub write-done : (xs : List ℕ) (room : ℕ) → length b % 5 ≡ 0 → writeSheet ss xs room ≡ writeFrom b xs room
+  unfolding writeFrom writeSheet
+  write-done xs room h = rw (fives h, ← said) (sym (tried-again refusedList _ _ _))
 
-  pub value-refused : (i : ℕ) → (length b % 5 ≡ 0 → ⊥) → valueFrom b i ≡ refusedPlace 2
+  pub value-refused : (i n : ℕ) → NotFives ss n → (length b % 5 ≡ 0 → ⊥) → refusedPlace n ≡ valueFrom b i
   unfolding valueFrom
-  value-refused i h = unless-refused refusedPlace _ 2 _ (sym (not-fives h)) (λ q. omega arith)
+  value-refused i n e h = sym (unless-refused refusedPlace _ n _ (not-fives n e h) (not-fives-refused ss n e))
 
-  pub value-done : (i : ℕ) → length b % 5 ≡ 0 → valueFrom b i ≡ valueAt (saidShapes b) i
-  unfolding valueFrom
-  value-done i h = unless-done refusedPlace _ 0 _ (sym (fives h)) refl
+  pub value-done : (i : ℕ) → length b % 5 ≡ 0 → valueAt ss i ≡ valueFrom b i
+  unfolding valueFrom valueAt
+  value-done i h = rw (fives h, ← said) (sym (tried-again refusedPlace _ _ _))
 
 -- ---- a sheet that is read
 

@@ -12,10 +12,10 @@ use Rattle.masks.specs.Shapes.{gradeRefusal}
 use Rattle.sheets.specs.declared.shapes.Shapes.{Shapes}
 use Rattle.sheets.specs.declared.shapes.Placed.{Placed}
 use Rattle.sheets.specs.Bytes.{parts, allBytes}
-use Rattle.sheets.specs.Format.{shapeBytes}
+use Rattle.sheets.specs.Format.{anyAboveNine, shapeBytes}
 use Rattle.sheets.specs.declared.read.SheetRead.{SheetRead}
 use Rattle.sheets.specs.Reading.{shapeFrom, ReadOutcome, readOf}
-use Rattle.sheets.specs.Shapes.{blankShapes}
+use Rattle.sheets.specs.Shapes.{listedShapes, blankShapes}
 use Rattle.sheets.specs.Values.{valueAt, refusedPlace}
 use Rattle.sheets.specs.Writing.{writeSheet}
 use Rattle.exports.specs.Told.{Tells}
@@ -38,15 +38,15 @@ pub record TellsOrderOf (d r : ℕ) (before after beforeRight afterRight : List 
 unfoldable pub saidShapes : List ℕ → Shapes
 saidShapes b = record { count = length b / 5; held = laid (map shapeFrom (parts 5 (min (length b / 5) 64) b)) blankShapes }
 
--- 2: There are bytes past the last five.
-abbrev pub notFives : List ℕ → Test
-notFives b = record { fails = not (eqb (length b % 5) 0); number = 2 }
+-- 1: A dimension is above 9. 2: There are bytes past the last five.
+abbrev pub fivesTests : List ℕ → List Test
+fivesTests b = record { fails = anyAboveNine (listedShapes (saidShapes b)); number = 1 } ∷ record { fails = not (eqb (length b % 5) 0); number = 2 } ∷ []
 
 unfoldable pub writeFrom : List ℕ → List ℕ → ℕ → Written ℕ
-writeFrom b xs room = unless refusedList (refusal (notFives b ∷ [])) (writeSheet (saidShapes b) xs room)
+writeFrom b xs room = unless refusedList (refusal (fivesTests b)) (writeSheet (saidShapes b) xs room)
 
 unfoldable pub valueFrom : List ℕ → ℕ → Placed
-valueFrom b i = unless refusedPlace (refusal (notFives b ∷ [])) (valueAt (saidShapes b) i)
+valueFrom b i = unless refusedPlace (refusal (fivesTests b)) (valueAt (saidShapes b) i)
 
 -- ---- a sheet that is read
 

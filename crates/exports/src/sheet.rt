@@ -3,7 +3,6 @@ use super::numbers::shape_from;
 use super::tell::tell_count;
 use super::tell::tell_place;
 use super::tell::tell_sheet;
-use masks::outcome::WRONG_COUNT;
 use masks::shape::Shape;
 use sheets::patterns::numbers_of;
 use sheets::patterns::patterns_of;
@@ -13,10 +12,13 @@ use sheets::shapes::Shapes;
 use sheets::shapes::value_at;
 use sheets::write::write;
 ghost use mathlib.Core.Path.{_≡_};
+ghost use mathlib.Core.Bool.{cond};
 ghost use mathlib.Core.List.{[], _∷_};
 ghost use Prim.Native.Nat.{_≤_};
 ghost use lib.ListN.{length};
+ghost use Rattle.sheets.specs.Format.{anyAboveNine};
 ghost use Rattle.sheets.specs.Reading.{readSheet};
+ghost use Rattle.sheets.specs.Shapes.{listedShapes};
 ghost use Rattle.sheets.specs.Patterns.{numbersOf, patternsOf};
 ghost use Rattle.exports.specs.Told.{TellsPlace, TellsList};
 ghost use Rattle.exports.specs.Parts.{writeFrom, valueFrom, TellsSheet};
@@ -59,6 +61,15 @@ fn shapes_from(bytes: &[u8]) -> Shapes
     Shapes { count, held }
 }
 
+// The number that shapes with bytes past the last five are refused with. At most 64 shapes are listed, so that no value is at index 64:
+// `value_at` gives 1 there where a dimension is above 9, else 2.
+fn not_fives(shapes: Shapes) -> u8
+    ensures { λ r. ⌜ r ≡ cond (anyAboveNine (listedShapes shapes)) 1 2 ⌝ }
+{
+    let placed = value_at(shapes, MAX_SHAPES);
+    placed.number
+}
+
 // The sheet that bytes are: its patterns, from the front of the output, and how many shapes and patterns there are. Its shapes stand in
 // the bytes, from byte 2 on.
 #[no_mangle]
@@ -84,10 +95,11 @@ pub extern "C" fn thresholm_write(
 ) -> u8
     ensures { λ r. ⌜ TellsList (writeFrom (now (shapes .entry)) (now (patterns .entry)) (length (now (out .entry)))) r (now (out .entry)) (now (out .exit)) (now («to_count» .entry)) (now («to_count» .exit)) ⌝ }
 {
+    let said = shapes_from(shapes);
     if shapes.len() % 5 != 0 {
-        return WRONG_COUNT;
+        return not_fives(said);
     }
-    let written = write(shapes_from(shapes), patterns, out);
+    let written = write(said, patterns, out);
     tell_count(written, to_count)
 }
 
@@ -105,10 +117,11 @@ pub extern "C" fn thresholm_value_at(
 ) -> u8
     ensures { λ r. ⌜ TellsPlace (valueFrom (now (shapes .entry)) index) r (now («to_dims» .entry) ∷ now («to_kind» .entry) ∷ now («to_p» .entry) ∷ now («to_n» .entry) ∷ now («to_z» .entry) ∷ now («to_start» .entry) ∷ []) (now («to_dims» .exit) ∷ now («to_kind» .exit) ∷ now («to_p» .exit) ∷ now («to_n» .exit) ∷ now («to_z» .exit) ∷ now («to_start» .exit) ∷ []) ⌝ }
 {
+    let said = shapes_from(shapes);
     if shapes.len() % 5 != 0 {
-        return WRONG_COUNT;
+        return not_fives(said);
     }
-    let placed = value_at(shapes_from(shapes), index);
+    let placed = value_at(said, index);
     tell_place(placed, to_dims, to_kind, to_p, to_n, to_z, to_start)
 }
 
