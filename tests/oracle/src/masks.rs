@@ -56,77 +56,88 @@ fn half(d: u64) -> usize {
     1 << d.clamp(1, 63) >> 1
 }
 
-fn done(c: &Call) -> Given<Answer> {
+fn words(words: Vec<u64>) -> Answer {
+    Answer { words, ..Answer::default() }
+}
+
+/// The value that a call gives.
+fn made(c: &Call) -> Multivector {
+    rust::make(flavor(&c.words[1..5]), &c.a)
+}
+
+/// Grades, masks and the metric.
+fn of_masks(c: &Call) -> Given<Answer> {
     let w = &c.words;
-    let made = || rust::make(flavor(&w[1..5]), &c.a);
-    match c.op {
+    Ok(match c.op {
         GRADE_SIZE => {
             dims(w[0])?;
-            Ok(Answer { words: vec![0, grade_size(w[0] as u8, w[1] as u8) as u64], ..Answer::default() })
+            words(vec![0, grade_size(w[0] as u8, w[1] as u8) as u64])
         }
-        BLADE_COUNT => Ok(Answer { words: vec![if w[0] > 9 { 0 } else { 1 << w[0] }], ..Answer::default() }),
+        BLADE_COUNT => words(vec![if w[0] > 9 { 0 } else { 1 << w[0] }]),
         ORDER_OF => {
             let d = if w[0] > 9 { 0 } else { w[0] as u8 };
             let (masks, places) = mask_tables(d);
             let held = |t: &[usize]| (0..512).map(|i| t.get(i).map_or(0.0, |x| *x as f64)).collect();
-            Ok(Answer { words: vec![d as u64], out: held(masks), right: held(places) })
+            Answer { words: vec![d as u64], out: held(masks), right: held(places) }
         }
-        METRIC => Ok(Answer { words: vec![(flavor(&w[1..]).metric(w[5] as u8) + 1) as u64], ..Answer::default() }),
+        METRIC => words(vec![(flavor(&w[1..]).metric(w[5] as u8) + 1) as u64]),
+        _ => return of_flavors(c),
+    })
+}
+
+/// Flavors, their text, and shapes that are only named.
+fn of_flavors(c: &Call) -> Given<Answer> {
+    let w = &c.words;
+    Ok(match c.op {
         TRY_FROM_STR => {
             let bytes: Vec<u8> = w.iter().map(|b| *b as u8).collect();
             unless(bytes.iter().any(|b| *b > 127), 7)?;
-            match Flavor::try_from_str(std::str::from_utf8(&bytes).unwrap()) {
-                None => Err(7),
-                Some(Err(_)) => Err(8),
-                Some(Ok(f)) => Ok(Answer { words: [vec![0], flavor_words(f).to_vec()].concat(), ..Answer::default() }),
-            }
+            let read = Flavor::try_from_str(std::str::from_utf8(&bytes).unwrap());
+            let f = read.ok_or(7u64)?.map_err(|_| 8u64)?;
+            words([vec![0], flavor_words(f).to_vec()].concat())
         }
         WRITE_TO => {
             let text = flavor(&w[1..]).to_string();
             room(c.room, text.len())?;
-            Ok(Answer {
-                words: vec![0, text.len() as u64],
-                out: text.bytes().map(f64::from).chain(std::iter::repeat(7.0)).take(c.room).collect(),
-                right: vec![],
-            })
+            let out = text.bytes().map(f64::from).chain(std::iter::repeat(7.0)).take(c.room).collect();
+            Answer { words: vec![0, text.len() as u64], out, right: vec![] }
         }
-        SET_DIMS => {
-            dims(w[0])?;
-            dims(w[5])?;
-            count(&c.a, w[0])?;
-            room(c.room, 1 << w[5])?;
-            Ok(value(run(|| {
-                let mut m = made();
-                m.set_dims(w[5] as u8);
-                m
-            })))
+        // The dimensions that the Rust adds to a value of none.
+        PROMOTION => {
+            let mut m = rust::make(flavor(&w[1..]), &[1.0]);
+            m.set_flavor(flavor(&w[6..]));
+            words(vec![m.dims() as u64])
         }
+        SHAPE_OF => words([&[w[0]][..], &flavor_words(flavor(&w[1..]))].concat()),
+        NULL_FLAVOR => words(flavor_words(Flavor::NULL).to_vec()),
+        _ => return changed(c),
+    })
+}
+
+/// The value after a change, where its result has n dimensions.
+fn changed_to(c: &Call, n: u64, change: impl FnOnce(&mut Multivector)) -> Given<Answer> {
+    dims(n)?;
+    count(&c.a, c.words[0])?;
+    room(c.room, 1 << n)?;
+    let mut m = made(c);
+    run(|| change(&mut m));
+    Ok(value(m))
+}
+
+/// Changes of shapes.
+fn changed(c: &Call) -> Given<Answer> {
+    let w = &c.words;
+    dims(if [SET_DIMS, SET_FLAVOR, CONFORM_TO].contains(&c.op) { w[0] } else { 0 })?;
+    match c.op {
+        SET_DIMS => changed_to(c, w[5], |m| m.set_dims(w[5] as u8)),
         SET_FLAVOR => {
             let f = flavor(&w[6..]);
-            dims(w[0])?;
-            let n = w[0] + promotes(flavor(&w[1..]), f);
-            dims(n)?;
-            count(&c.a, w[0])?;
-            room(c.room, 1 << n)?;
-            Ok(value(run(|| {
-                let mut m = made();
-                m.set_flavor(f);
-                m
-            })))
+            changed_to(c, w[0] + promotes(flavor(&w[1..]), f), |m| m.set_flavor(f))
         }
         CONFORM_TO => {
             let theirs = flavor(&w[6..]);
-            dims(w[0])?;
             let n = (w[0] + promotes(flavor(&w[1..]), theirs)).max(w[5]);
-            dims(n)?;
-            count(&c.a, w[0])?;
-            room(c.room, 1 << n)?;
-            let other = rust::make(theirs, &vec![1.0; 1 << w[5]]);
-            Ok(value(run(|| {
-                let mut m = made();
-                rust::conform_to(&mut m, &other);
-                m
-            })))
+            changed_to(c, n, |m| rust::conform_to(m, &rust::make(theirs, &vec![1.0; 1 << w[5]])))
         }
         CONFORM => {
             let (mut a, mut b, n) = two_values(c)?;
@@ -139,29 +150,39 @@ fn done(c: &Call) -> Given<Answer> {
                 right: rust::coefs(&b).to_vec(),
             })
         }
+        _ => of_blades(c),
+    }
+}
+
+/// Single blades and single grades.
+fn of_blades(c: &Call) -> Given<Answer> {
+    let w = &c.words;
+    match c.op {
         GET_BLADE => {
             dims(w[0])?;
             count(&c.a, w[0])?;
-            Ok(Answer { words: vec![0], out: vec![run(|| made().get_blade(w[5] as usize))], right: vec![] })
+            Ok(Answer { words: vec![0], out: vec![run(|| made(c).get_blade(w[5] as usize))], right: vec![] })
         }
         SET_BLADE => {
             dims(w[0])?;
             unless(w[5] >= 512, 1)?;
-            count(&c.a, w[0])?;
             let grown = (64 - w[5].leading_zeros() as u64).max(w[0]);
-            room(c.room, 1 << grown)?;
-            Ok(value(run(|| {
-                let mut m = made();
-                m.set_blade(w[5] as usize, c.b[0]);
-                m
-            })))
+            changed_to(c, grown, |m| m.set_blade(w[5] as usize, c.b[0]))
         }
         GRADE => {
             dims(w[0])?;
             count(&c.a, w[0])?;
             unless(w[5] > w[0], 4)?;
-            Ok(list(run(|| made().grades().nth(w[5] as usize).unwrap().to_vec())))
+            Ok(list(run(|| made(c).grades().nth(w[5] as usize).unwrap().to_vec())))
         }
+        _ => built(c),
+    }
+}
+
+/// Values from few numbers.
+fn built(c: &Call) -> Given<Answer> {
+    let w = &c.words;
+    match c.op {
         VECTOR => {
             dims(c.a.len() as u64)?;
             room(c.room, 1 << c.a.len())?;
@@ -188,27 +209,27 @@ fn done(c: &Call) -> Given<Answer> {
             room(c.room, 1 << w[0])?;
             Ok(value(m))
         }
+        _ => some_numbers(c),
+    }
+}
+
+/// Some numbers of a value.
+fn some_numbers(c: &Call) -> Given<Answer> {
+    let w = &c.words;
+    match c.op {
         UNPACK_ALL => unpacked(c, Some(w[5]), None, 1 << w[5].min(63)),
         UNPACK_EVEN => unpacked(c, Some(w[5]), Some(SubSide::Left), half(w[5])),
         UNPACK_ODD => unpacked(c, Some(w[5]), Some(SubSide::Right), half(w[5])),
         UNPACK_OWN_EVEN => unpacked(c, None, Some(SubSide::Left), half(w[0])),
         UNPACK_OWN_ODD => unpacked(c, None, Some(SubSide::Right), half(w[0])),
         UNPACK_VECTOR => unpacked(c, None, None, w[0] as usize),
-        // The dimensions that the Rust adds to a value of none.
-        PROMOTION => {
-            let mut m = rust::make(flavor(&w[1..]), &[1.0]);
-            m.set_flavor(flavor(&w[6..]));
-            Ok(Answer { words: vec![m.dims() as u64], ..Answer::default() })
-        }
-        SHAPE_OF => Ok(Answer { words: [&[w[0]][..], &flavor_words(flavor(&w[1..]))].concat(), ..Answer::default() }),
-        NULL_FLAVOR => Ok(Answer { words: flavor_words(Flavor::NULL).to_vec(), ..Answer::default() }),
         _ => unreachable!("no call has this number"),
     }
 }
 
 /// What comes out of a call: the Rust's answer, or a refusal with its number, zeros and nothing written.
 pub fn answer(c: &Call) -> Answer {
-    done(c).unwrap_or_else(|number| {
+    of_masks(c).unwrap_or_else(|number| {
         let zeros = match c.op {
             GRADE_SIZE | WRITE_TO | GRADE | UNPACK_ALL..=UNPACK_VECTOR => 1,
             TRY_FROM_STR => 4,

@@ -1,7 +1,7 @@
 //! Calls of the crate `sheets` drawn from a seed: good sheets, and sheets that were damaged.
 use crate::line::SheetCall;
 use crate::numbers::Rng;
-use crate::sheet_lists::{FLAVORS, PATTERNS, read, shape, turned, value_at, write};
+use crate::sheet_calls::{FLAVORS, PATTERNS, read, shape, turned, value_at, write};
 use crate::sheet_reader::{self as ours, Shape, Sheet};
 use crate::sheets::*;
 
@@ -93,15 +93,7 @@ fn damage(r: &mut Rng, b: &mut Vec<u8>, n: usize) {
             let again = b[part(r, b, 40)].to_vec();
             b.splice(at..at, again);
         }
-        9 if whole && n > 0 => {
-            let k = 2 + 5 * r.below(n);
-            if r.below(2) == 0 {
-                b.drain(k..k + 5);
-            } else {
-                let again = b[k..k + 5].to_vec();
-                b.splice(k..k, again);
-            }
-        }
+        9 if whole && n > 0 => damage_shape(r, b, n),
         10 if whole => b.rotate_left(front - 4),
         11..=12 if b.len() >= 2 => {
             let count = other_count(r, u16::from_le_bytes([b[0], b[1]]).into(), 0xffff);
@@ -114,6 +106,17 @@ fn damage(r: &mut Rng, b: &mut Vec<u8>, n: usize) {
         }
         14 => b.truncate(at),
         _ => b.extend((0..1 + r.below(16)).map(|_| if r.below(2) == 0 { 0 } else { r.next() as u8 })),
+    }
+}
+
+/// One of n shapes is left out or doubled.
+fn damage_shape(r: &mut Rng, b: &mut Vec<u8>, n: usize) {
+    let k = 2 + 5 * r.below(n);
+    if r.below(2) == 0 {
+        b.drain(k..k + 5);
+    } else {
+        let again = b[k..k + 5].to_vec();
+        b.splice(k..k, again);
     }
 }
 

@@ -1,79 +1,9 @@
 //! Lists of the calls of the crate `sheets`: small sheets, limits, and one change at a time of good sheets. The random ones are in
 //! sheet_damage.rs.
 use crate::line::SheetCall;
+use crate::sheet_calls::*;
 use crate::sheet_reader::{self as ours, Shape, Sheet};
 use crate::sheets::*;
-
-pub const fn shape(dims: u8, [kind, p, n, z]: [u8; 4]) -> Shape {
-    Shape { dims, kind, p, n, z }
-}
-
-pub const VANILLA: [u8; 4] = [0, 0, 0, 0];
-pub const PROJECTIVE: [u8; 4] = [1, 0, 0, 0];
-
-/// Every kind, and Cl of few and of many.
-pub const FLAVORS: [[u8; 4]; 8] =
-    [VANILLA, PROJECTIVE, [2, 0, 0, 0], [2, 3, 0, 1], [2, 1, 2, 0], [2, 0, 0, 255], [2, 255, 0, 0], [2, 255, 255, 255]];
-
-/// Zeros of both signs, units, the least and the largest subnormal, the least normal, the largest, infinities, NaNs of both signs with and
-/// without a payload, quiet and signalling, the patterns of all ones, and eight different bytes.
-pub const PATTERNS: [u64; 23] = [
-    0,
-    1 << 63,
-    0x3ff0_0000_0000_0000,
-    0xbff0_0000_0000_0000,
-    1,
-    0x8000_0000_0000_0001,
-    0x000f_ffff_ffff_ffff,
-    0x800f_ffff_ffff_ffff,
-    0x0010_0000_0000_0000,
-    0x7fef_ffff_ffff_ffff,
-    0xffef_ffff_ffff_ffff,
-    0x7ff0_0000_0000_0000,
-    0xfff0_0000_0000_0000,
-    0x7ff8_0000_0000_0000,
-    0xfff8_0000_0000_0000,
-    0x7ff8_0000_0000_0001,
-    0x7ff0_0000_0000_0001,
-    0xfff0_0000_0000_0001,
-    0xfff0_0000_dead_beef,
-    0x7fff_ffff_ffff_ffff,
-    u64::MAX,
-    0x0123_4567_89ab_cdef,
-    0xfedc_ba98_7654_3210,
-];
-
-/// A sheet of these shapes, its patterns those above from one on, over and over.
-pub fn sheet(shapes: &[Shape], from: usize) -> Sheet {
-    let n = shapes.iter().map(|s| 1usize << s.dims).sum();
-    Sheet { shapes: shapes.to_vec(), patterns: PATTERNS.iter().copied().cycle().skip(from % PATTERNS.len()).take(n).collect() }
-}
-
-// ---- calls
-
-pub fn read(bytes: &[u8], room: usize) -> SheetCall {
-    SheetCall { op: READ, first: bytes.iter().map(|b| u64::from(*b)).collect(), room, ..SheetCall::default() }
-}
-
-fn shape_list(shapes: &[Shape]) -> Vec<u64> {
-    shapes.iter().flat_map(shape_words).collect()
-}
-
-/// A write of shapes that are held, the first `count` of them listed.
-pub fn write(count: u64, shapes: &[Shape], patterns: &[u64], room: usize) -> SheetCall {
-    SheetCall { op: WRITE, words: vec![count], first: shape_list(shapes), second: patterns.to_vec(), room }
-}
-
-pub fn value_at(count: u64, shapes: &[Shape], index: u64) -> SheetCall {
-    SheetCall { op: VALUE_AT, words: vec![count, index], first: shape_list(shapes), ..SheetCall::default() }
-}
-
-/// Patterns to numbers, or numbers to patterns.
-pub fn turned(op: u64, patterns: &[u64], room: usize) -> SheetCall {
-    SheetCall { op, first: patterns.to_vec(), room, ..SheetCall::default() }
-}
-
-// ---- lists
 
 /// Everything that is listed whole.
 pub fn exhaustive(each: &mut impl FnMut(SheetCall)) {
@@ -323,76 +253,6 @@ fn turns(each: &mut impl FnMut(SheetCall)) {
         }
         for bit in 0..64 {
             each(turned(op, &[1 << bit, !(1 << bit), 0x7ff0 << 48 | 1 << bit, 0xfff0 << 48 | 1 << bit], 4));
-        }
-    }
-}
-
-/// The stored ones, but for those that are drawn: the sheet of the worked table, one of 64 shapes, one of nine dimensions, and each refusal
-/// alone.
-pub fn stored(each: &mut impl FnMut(SheetCall)) {
-    round_trip(&worked(), each);
-    let s = sheet(&FLAVORS.map(|f| shape(0, f)).repeat(8), 0);
-    let bytes = ours::write(&s);
-    each(write(64, &s.shapes, &s.patterns, bytes.len()));
-    each(read(&bytes, 64));
-    for index in [63, 64] {
-        each(value_at(64, &s.shapes, index));
-    }
-    let nine = Sheet { shapes: vec![shape(9, PROJECTIVE)], patterns: vec![0; 512] };
-    let bytes = ours::write(&nine);
-    each(write(1, &nine.shapes, &nine.patterns, bytes.len()));
-    each(read(&bytes, 512));
-    for op in [NUMBERS_OF, PATTERNS_OF] {
-        each(turned(op, &PATTERNS, PATTERNS.len()));
-        each(turned(op, &PATTERNS, PATTERNS.len() - 1));
-    }
-    malformed(each);
-    refused(each);
-}
-
-/// Sheets that break one rule each: a shape's, a limit, a count, the end. Zeros are short lines. 9 comes before 3.
-fn malformed(each: &mut impl FnMut(SheetCall)) {
-    let zeros = |shapes: &[Shape], n: usize| ours::write(&Sheet { shapes: shapes.to_vec(), patterns: vec![0; n] });
-    let flawed = [[255, 2, 0, 0, 0], [0, 3, 0, 0, 0], [0, 0, 1, 0, 0], [0, 0, 0, 1, 0], [0, 1, 0, 0, 255]];
-    for [dims, flavor @ ..] in flawed {
-        each(read(&zeros(&[shape(dims, flavor)], 1), 1));
-    }
-    for n in [0, 1, 1024] {
-        each(read(&zeros(&[shape(10, VANILLA)], n), n));
-    }
-    each(read(&zeros(&[shape(0, VANILLA); 65], 65), 65));
-    each(read(&zeros(&[&[shape(9, VANILLA); 8][..], &[shape(0, VANILLA)]].concat(), 4097), 4097));
-    for counts in [[0, 1, 0, 0, 0, 0], [0, 0, 0, 1, 0, 0], [0, 0, 0, 0, 1, 0], [0, 0, 0, 0, 0, 1]] {
-        each(read(&counts, 0));
-    }
-    let two = [shape(1, VANILLA), shape(0, PROJECTIVE)];
-    for n in [2, 4] {
-        each(read(&zeros(&two, n), 4));
-    }
-    let bytes = zeros(&two, 3);
-    for room in [0, 2, 3] {
-        each(read(&bytes[..bytes.len() - 1], room));
-        each(read(&[&bytes[..], &[0]].concat(), room));
-        each(read(&bytes, room));
-    }
-    each(read(&[], 0));
-}
-
-/// Writes and values at an index that are refused, each for one reason and for several: 1 comes before 2, and 2 before 3.
-fn refused(each: &mut impl FnMut(SheetCall)) {
-    let nine = [&[shape(9, VANILLA); 8][..], &[shape(0, VANILLA)]].concat();
-    each(write(9, &nine, &[0; 4097], 40_000));
-    for n in [0, 1, 1024] {
-        each(write(1, &[shape(10, VANILLA)], &vec![0; n], 40_000));
-    }
-    let (good, large) = ([shape(1, VANILLA), shape(0, PROJECTIVE)], [shape(1, VANILLA), shape(10, VANILLA)]);
-    each(write(65, &good, &[0; 65], 40_000));
-    for (count, held) in [(2, good), (65, good), (u64::MAX, good), (1, large), (2, large), (65, large)] {
-        for (patterns, room) in [(3, 40), (3, 39), (2, 40), (4, 48), (4, 0)] {
-            each(write(count, &held, &PATTERNS[..patterns], room));
-        }
-        for index in [0, 1, 2, 63, 64, u64::MAX] {
-            each(value_at(count, &held, index));
         }
     }
 }

@@ -9,6 +9,8 @@ pub const VALUE_AT: u64 = 59;
 pub const NUMBERS_OF: u64 = 60;
 pub const PATTERNS_OF: u64 = 61;
 
+pub const ALL: std::ops::RangeInclusive<u64> = READ..=PATTERNS_OF;
+
 /// How many shapes a record holds.
 const HELD: usize = 64;
 

@@ -1,0 +1,67 @@
+//! A call as the exports take it.
+use super::known::{Part, known, placed};
+use super::memory::Memory;
+use crate::line::{Call, SheetCall};
+use crate::masks::{N_1_BLADES, VECTOR};
+use crate::sheet_reader as ours;
+use crate::sheets::{READ, VALUE_AT, WRITE};
+
+/// Of a sheet call the first list has bytes (a sheet's, or the shapes', five each), patterns or numbers; the second patterns; the words only
+/// an index.
+#[derive(Clone)]
+pub enum Asked {
+    Values(Call),
+    Sheet(SheetCall),
+}
+
+/// The call names dimensions: in a word, by a count of numbers, or by the shapes of a sheet.
+pub fn has_dims(op: u64) -> bool {
+    known(op).parts.contains(&Part::Dims) || [VECTOR, N_1_BLADES, READ, WRITE, VALUE_AT].contains(&op)
+}
+
+/// More shapes than a sheet may have: a count of more, which no list of bytes can have, is taken for so many.
+const TOO_MANY: u64 = 70;
+
+impl Asked {
+    /// A sheet call of the lines: so many shapes are listed, those that are not held are shape 0 Vanilla.
+    pub fn sheet(mut c: SheetCall) -> Asked {
+        if [WRITE, VALUE_AT].contains(&c.op) {
+            c.first.resize(5 * c.words[0].min(TOO_MANY) as usize, 0);
+            c.words.remove(0);
+        }
+        Asked::Sheet(c)
+    }
+    pub fn op(&self) -> u64 {
+        match self {
+            Asked::Values(c) => c.op,
+            Asked::Sheet(c) => c.op,
+        }
+    }
+    pub fn name(&self) -> &'static str {
+        known(self.op()).name
+    }
+    /// What is lent, marked.
+    pub fn memory(&self, mark: u8) -> Memory {
+        let (room, right) = match self {
+            Asked::Values(c) => (c.room, c.room_right),
+            Asked::Sheet(c) => (c.room, 0),
+        };
+        Memory::marked(known(self.op()).lends, room, right, mark)
+    }
+    /// The most dimensions that the call names, where it names any.
+    pub fn dims(&self) -> Option<u64> {
+        match self {
+            Asked::Values(c) if [VECTOR, N_1_BLADES].contains(&c.op) => Some(c.a.len() as u64),
+            Asked::Values(c) => {
+                let parts = placed(c.op, c.words.len());
+                parts.iter().filter(|(part, ..)| *part == Part::Dims).map(|(_, at, _)| c.words[*at]).max()
+            }
+            Asked::Sheet(c) if c.op == READ => {
+                let bytes: Vec<u8> = c.first.iter().map(|b| *b as u8).collect();
+                ours::read(&bytes).ok()?.shapes.iter().map(|s| s.dims.into()).max()
+            }
+            Asked::Sheet(c) if [WRITE, VALUE_AT].contains(&c.op) => c.first.iter().step_by(5).copied().max(),
+            Asked::Sheet(_) => None,
+        }
+    }
+}

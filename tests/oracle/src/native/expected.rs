@@ -1,0 +1,149 @@
+//! What must be returned and left: the answer of the lines (the Rust's, or that of a reader and a writer of our own), put into the memory that is
+//! lent.
+use super::asked::Asked;
+use super::known::{Lends, known};
+use super::memory::Memory;
+use super::named;
+use crate::line::{Answer, Call, SheetAnswer, SheetCall};
+use crate::masks::{METRIC, ORDER_OF};
+use crate::rules::flavor;
+use crate::sheets::{self, READ, VALUE_AT, WRITE};
+use uiua_parser::mask_tables;
+use uiua_parser::multivector::harness as rust;
+
+/// The answer of a call that has a line, or of one that only names what it is given.
+fn answer(c: &Call) -> Answer {
+    if named::ALL.contains(&c.op) { named::answer(c) } else { crate::answer(c) }
+}
+
+/// What the exports must return and leave.
+pub fn expected(asked: &Asked, mark: u8) -> Memory {
+    let mut m = asked.memory(mark);
+    match asked {
+        Asked::Values(c) if c.op == ORDER_OF => order(c, &mut m),
+        Asked::Values(c) => value(c, answer(c), &mut m),
+        Asked::Sheet(c) => sheet(c, &mut m),
+    }
+    m
+}
+
+/// The masks and the places of a dimension, those of none where it is above 9; 3 where either output is shorter.
+fn order(c: &Call, m: &mut Memory) {
+    let (masks, places) = mask_tables(if c.words[0] > 9 { 0 } else { c.words[0] as u8 });
+    if c.room.min(c.room_right) < masks.len() {
+        m.returned = 3;
+        return;
+    }
+    m.counts.put([masks.len()].into_iter());
+    m.masks.put(masks.iter().map(|x| *x as u16));
+    m.places.put(places.iter().map(|x| *x as u16));
+}
+
+/// A refusal leaves everything as it was.
+fn value(c: &Call, a: Answer, m: &mut Memory) {
+    let lends = known(c.op).lends;
+    let bytes = |words: &[u64]| words.iter().map(|w| *w as u8).collect::<Vec<_>>().into_iter();
+    match lends {
+        Lends::Nothing => m.returned = a.words[0] as i64 - (c.op == METRIC) as i64,
+        Lends::OnlyFlavor | Lends::OnlyShape => m.bytes.put(bytes(&a.words)),
+        _ => m.returned = a.words[0] as i64,
+    }
+    if m.returned != 0 {
+        return;
+    }
+    let told = &a.words[a.words.len().min(1)..];
+    match lends {
+        Lends::Nothing | Lends::OnlyFlavor | Lends::OnlyShape => {}
+        Lends::Flavor | Lends::Shape | Lends::Value | Lends::Values | Lends::Yes | Lends::Test => m.bytes.put(bytes(told)),
+        Lends::Product | Lends::Taken => m.bytes.put(bytes(&told[..5])),
+        Lends::Order => m.order.put([told[0] as i8 - 1].into_iter()),
+        Lends::Start => m.counts.put([start(c), told[0] as usize].into_iter()),
+        Lends::Count | Lends::List | Lends::Text => m.counts.put([told[0] as usize].into_iter()),
+        Lends::Number => {}
+        _ => unreachable!("not lent to this call"),
+    }
+    numbers(lends, told, &a, m);
+}
+
+/// What is written to outputs, and to references to numbers.
+fn numbers(lends: Lends, told: &[u64], a: &Answer, m: &mut Memory) {
+    let (out, right) = (a.out.iter().copied(), a.right.iter().copied());
+    match lends {
+        Lends::Value | Lends::List => m.out.put(out),
+        Lends::Values => {
+            m.out.put(out);
+            m.right.put(right);
+        }
+        Lends::Product => {
+            m.out.put(out);
+            m.pairs.put([told[5] as u32].into_iter());
+        }
+        Lends::Taken => {
+            m.out.put(out);
+            m.values.put(right);
+        }
+        Lends::Number => m.values.put(out),
+        Lends::Test => {
+            let part = |i: usize| a.out.get(i).copied().unwrap_or(0.0);
+            m.values.put([part(0), part(1)].into_iter())
+        }
+        Lends::Text => m.text.put(a.out[..told[0] as usize].iter().map(|b| *b as u8)),
+        _ => {}
+    }
+}
+
+/// Where a grade starts: after all lower ones that the Rust gives.
+fn start(c: &Call) -> usize {
+    let m = rust::make(flavor(&c.words[1..]), &c.a);
+    m.grades().take(c.words[5] as usize).map(|grade| grade.len()).sum()
+}
+
+/// The shapes that bytes say, five each: kind 2 for any above 1, and p, n, z zero unless it is 2.
+fn in_words(bytes: &[u64]) -> Vec<u64> {
+    bytes
+        .chunks_exact(5)
+        .take(64)
+        .flat_map(|s| match s[1] {
+            0 | 1 => [s[0], s[1], 0, 0, 0],
+            _ => [s[0], 2, s[2], s[3], s[4]],
+        })
+        .collect()
+}
+
+/// A sheet call in the lines' form: the count of its shapes is a word.
+fn lined(c: &SheetCall) -> SheetCall {
+    let mut c = c.clone();
+    if [WRITE, VALUE_AT].contains(&c.op) {
+        c.words.insert(0, c.first.len() as u64 / 5);
+        c.first = in_words(&c.first);
+    }
+    c
+}
+
+/// Bytes past the last five are refused with 2, or with 1 where a dimension of the shapes is above 9.
+/// Bytes past the last whole shape refuse 2, and 1 comes first where a shape that is held has too many dimensions.
+fn sheet(c: &SheetCall, m: &mut Memory) {
+    if [WRITE, VALUE_AT].contains(&c.op) && c.first.len() % 5 != 0 {
+        m.returned = if in_words(&c.first).iter().step_by(5).any(|dims| *dims > 9) { 1 } else { 2 };
+        return;
+    }
+    let SheetAnswer { words, out } = sheets::answer(&lined(c));
+    m.returned = words[0] as i64;
+    if m.returned != 0 {
+        return;
+    }
+    match c.op {
+        READ => m.counts.put([words[1] as usize, words[2] as usize].into_iter()),
+        VALUE_AT => {
+            m.bytes.put([1, 2, 3, 4, 5].map(|i| words[i] as u8).into_iter());
+            m.counts.put([words[6] as usize].into_iter());
+        }
+        _ => m.counts.put([words[1] as usize].into_iter()),
+    }
+    match known(c.op).lends {
+        Lends::Text => m.text.put(out.iter().map(|b| *b as u8)),
+        Lends::List => m.out.put(out.iter().map(|x| f64::from_bits(*x))),
+        Lends::Patterns | Lends::Sheet => m.patterns.put(out.into_iter()),
+        _ => {}
+    }
+}

@@ -1,0 +1,253 @@
+//! The memory that is lent to a call, marked before it: so a call is compared by all that it returns and all that it leaves, what it
+//! must not touch included.
+use super::known::Lends;
+
+/// So many cells stand before and after each lent list, and are marked too.
+pub const AROUND: usize = 8;
+
+/// The byte that fills what is lent. No mark is a NaN.
+pub const MARKS: [u8; 2] = [0xa5, 0x5a];
+
+/// A mark, eight bytes of it.
+pub fn marked(mark: u8) -> u64 {
+    u64::from_ne_bytes([mark; 8])
+}
+
+/// A number of some width, as its bits.
+pub trait Cell: Copy {
+    /// The sign, or the highest bit.
+    const TOP: u64;
+    const IS_NUMBER: bool = false;
+    fn of(bits: u64) -> Self;
+    fn bits(self) -> u64;
+    fn same(self, other: Self) -> bool {
+        self.bits() == other.bits()
+    }
+    fn text(self) -> String;
+}
+
+macro_rules! whole {
+    ($($t:ty as $u:ty: $text:literal),*) => {$(
+        impl Cell for $t {
+            const TOP: u64 = 1 << (<$u>::BITS - 1);
+            fn of(bits: u64) -> Self {
+                bits as $t
+            }
+            fn bits(self) -> u64 {
+                self as $u as u64
+            }
+            fn text(self) -> String {
+                format!($text, self)
+            }
+        }
+    )*};
+}
+// A pattern is printed in hexadecimal.
+whole!(u8 as u8: "{}", i8 as u8: "{}", u16 as u16: "{}", u32 as u32: "{}", u64 as u64: "{:016x}", usize as usize: "{}");
+
+/// A NaN is the same as any other, whatever its payload and sign; every other number is its bits.
+impl Cell for f64 {
+    const TOP: u64 = 1 << 63;
+    const IS_NUMBER: bool = true;
+    fn of(bits: u64) -> Self {
+        f64::from_bits(bits)
+    }
+    fn bits(self) -> u64 {
+        self.to_bits()
+    }
+    fn same(self, other: Self) -> bool {
+        self.to_bits() == other.to_bits() || self.is_nan() && other.is_nan()
+    }
+    /// With its bits; +0 has none.
+    fn text(self) -> String {
+        if self.to_bits() == 0 { "0".to_string() } else { format!("{self:?} ({:016x})", self.to_bits()) }
+    }
+}
+
+/// A list that is lent, with marked cells around it; one that is not lent has no cells.
+#[derive(Clone)]
+pub struct Lent<T> {
+    cells: Vec<T>,
+    room: usize,
+}
+
+impl<T: Cell> Lent<T> {
+    pub fn none() -> Self {
+        Lent { cells: vec![], room: 0 }
+    }
+    pub fn new(room: usize, mark: u8) -> Self {
+        Lent { cells: vec![T::of(marked(mark)); room + 2 * AROUND], room }
+    }
+    pub fn holding(list: impl ExactSizeIterator<Item = T>, mark: u8) -> Self {
+        let mut lent = Lent::new(list.len(), mark);
+        lent.put(list);
+        lent
+    }
+    /// Writes from the front.
+    pub fn put(&mut self, list: impl ExactSizeIterator<Item = T>) {
+        assert!(list.len() <= self.room, "more is written than is lent");
+        for (cell, x) in self.cells.iter_mut().skip(AROUND).zip(list) {
+            *cell = x
+        }
+    }
+    /// The address of the cell at an index. That of one does not make that of another invalid.
+    pub fn at(&mut self, i: usize) -> *mut T {
+        assert!(!self.cells.is_empty() && i <= self.room, "nothing is lent there");
+        self.cells.as_mut_ptr().wrapping_add(AROUND + i)
+    }
+    pub fn count(&self) -> usize {
+        self.room
+    }
+    /// It is just this list, and the cells around it are still marked.
+    pub fn holds(&self, list: &Lent<T>) -> bool {
+        self.cells.iter().map(|x| x.bits()).eq(list.cells.iter().map(|x| x.bits()))
+    }
+    pub fn same(&self, other: &Lent<T>) -> bool {
+        self.cells.len() == other.cells.len() && self.cells.iter().zip(&other.cells).all(|(x, y)| x.same(*y))
+    }
+}
+
+/// A lent list of any width, cell by cell, those around it included.
+pub trait Cells {
+    fn len(&self) -> usize;
+    fn room(&self) -> usize;
+    fn bits(&self, i: usize) -> u64;
+    fn set(&mut self, i: usize, bits: u64);
+    fn top(&self) -> u64;
+    fn is_number(&self) -> bool;
+    fn text(&self, i: usize) -> String;
+}
+
+impl<T: Cell> Cells for Lent<T> {
+    fn len(&self) -> usize {
+        self.cells.len()
+    }
+    fn room(&self) -> usize {
+        self.room
+    }
+    fn bits(&self, i: usize) -> u64 {
+        self.cells[i].bits()
+    }
+    fn set(&mut self, i: usize, bits: u64) {
+        self.cells[i] = T::of(bits)
+    }
+    fn top(&self) -> u64 {
+        T::TOP
+    }
+    fn is_number(&self) -> bool {
+        T::IS_NUMBER
+    }
+    fn text(&self, i: usize) -> String {
+        self.cells[i].text()
+    }
+}
+
+/// What a call returned, what it left in all that was lent, and whether what went in is as it was.
+#[derive(Clone)]
+pub struct Memory {
+    pub returned: i64,
+    pub kept: bool,
+    /// References to shapes, a flavor, yes or no, or a test.
+    pub bytes: Lent<u8>,
+    pub counts: Lent<usize>,
+    pub pairs: Lent<u32>,
+    pub order: Lent<i8>,
+    pub values: Lent<f64>,
+    /// Outputs.
+    pub out: Lent<f64>,
+    pub right: Lent<f64>,
+    pub masks: Lent<u16>,
+    pub places: Lent<u16>,
+    pub text: Lent<u8>,
+    pub patterns: Lent<u64>,
+}
+
+impl Memory {
+    /// Marked, and nothing returned yet.
+    pub fn marked(lends: Lends, room: usize, room_right: usize, mark: u8) -> Memory {
+        use Lends::*;
+        let [bytes, counts, pairs, order, values] = references(lends);
+        Memory {
+            returned: 0,
+            kept: true,
+            bytes: lent(bytes, mark),
+            counts: lent(counts, mark),
+            pairs: lent(pairs, mark),
+            order: lent(order, mark),
+            values: lent(values, mark),
+            out: output(matches!(lends, Value | Values | Product | Taken | List), room, mark),
+            right: output(lends == Values, room_right, mark),
+            masks: output(lends == Masks, room, mark),
+            places: output(lends == Masks, room_right, mark),
+            text: output(lends == Text, room, mark),
+            patterns: output(matches!(lends, Patterns | Sheet), room, mark),
+        }
+    }
+    pub fn same(&self, other: &Memory) -> bool {
+        (self.returned, self.kept) == (other.returned, other.kept)
+            && self.bytes.same(&other.bytes)
+            && self.counts.same(&other.counts)
+            && self.pairs.same(&other.pairs)
+            && self.order.same(&other.order)
+            && self.values.same(&other.values)
+            && self.out.same(&other.out)
+            && self.right.same(&other.right)
+            && self.masks.same(&other.masks)
+            && self.places.same(&other.places)
+            && self.text.same(&other.text)
+            && self.patterns.same(&other.patterns)
+    }
+    /// The call returns the number of a refusal.
+    pub fn is_refused(&self, lends: Lends) -> bool {
+        lends.returns_refusal() && self.returned != 0
+    }
+    /// Every list, the references first; those that are not lent have no cells.
+    pub fn lists(&mut self) -> [&mut dyn Cells; LISTS.len()] {
+        [
+            &mut self.bytes,
+            &mut self.counts,
+            &mut self.pairs,
+            &mut self.order,
+            &mut self.values,
+            &mut self.out,
+            &mut self.right,
+            &mut self.masks,
+            &mut self.places,
+            &mut self.text,
+            &mut self.patterns,
+        ]
+    }
+}
+
+/// The names of the lists; the first five are references. No call has two outputs of one name.
+pub const LISTS: [&str; 11] =
+    ["bytes", "counts", "pairs", "order", "values", "out", "out_right", "masks", "places", "out", "out"];
+pub const REFERENCES: usize = 5;
+
+/// How many references to bytes, counts, pairs, orders and numbers are lent.
+fn references(lends: Lends) -> [usize; REFERENCES] {
+    use Lends::*;
+    match lends {
+        Nothing => [0, 0, 0, 0, 0],
+        OnlyFlavor | Flavor => [4, 0, 0, 0, 0],
+        OnlyShape | Shape | Value => [5, 0, 0, 0, 0],
+        Values => [10, 0, 0, 0, 0],
+        Product => [5, 0, 1, 0, 0],
+        Taken => [5, 0, 0, 0, 1],
+        Number => [0, 0, 0, 0, 1],
+        Test => [1, 0, 0, 0, 2],
+        Yes => [1, 0, 0, 0, 0],
+        Order => [0, 0, 0, 1, 0],
+        Count | List | Text | Patterns | Masks => [0, 1, 0, 0, 0],
+        Start | Sheet => [0, 2, 0, 0, 0],
+        Place => [5, 1, 0, 0, 0],
+    }
+}
+
+fn lent<T: Cell>(room: usize, mark: u8) -> Lent<T> {
+    output(room > 0, room, mark)
+}
+
+fn output<T: Cell>(is_lent: bool, room: usize, mark: u8) -> Lent<T> {
+    if is_lent { Lent::new(room, mark) } else { Lent::none() }
+}

@@ -1,0 +1,208 @@
+//! Single steps that may make a call smaller.
+use super::known::{Part, placed};
+use super::plain::Plain;
+use crate::sheet_reader::{self as ours, Shape, Sheet};
+use crate::sheets::{READ, WRITE};
+use std::ops::Range;
+
+/// One step. It is made from one call and tried on those that came of it, so it may not fit any more.
+pub enum Move {
+    /// A basis vector is left out, with every coefficient that has it, of the values in some of the lists.
+    Vector(usize, &'static [usize]),
+    /// Part of a list is filled with one number, or left out.
+    Fill(usize, Range<usize>, u64),
+    Drop(usize, Range<usize>),
+    /// A number has so many digits fewer, or the exponent 0.
+    Round(usize, usize, u32),
+    Unscaled(usize, usize),
+    /// Some words are others, or are left out.
+    Words(usize, Vec<u64>),
+    DropWord(usize),
+    /// Every flavor is this one.
+    Flavors([u64; 4]),
+    Room(usize, usize),
+    /// A sheet has no more a shape, or one of its shapes a dimension less, with the coefficients: the first half is left, or the other.
+    DropShape(usize),
+    LowerShape(usize, usize),
+    /// A sheet's shape is Vanilla, or one of its patterns another.
+    PlainShape(usize),
+    Pattern(usize, u64),
+}
+
+/// The masks in the order of the Rust.
+fn masks(d: u64) -> &'static [usize] {
+    uiua_parser::mask_tables(d as u8).0
+}
+
+/// The value in a list without basis vector i.
+fn without_vector(c: &mut Plain, list: usize, i: usize) -> Option<()> {
+    let d = c.dims(list).filter(|d| (i as u64) < *d)?;
+    let kept = masks(d).iter().zip(&c.lists[list]).filter(|(mask, _)| *mask >> i & 1 == 0);
+    c.lists[list] = kept.map(|(_, x)| *x).collect();
+    c.words[5 * list] = d - 1;
+    Some(())
+}
+
+/// The sheet that a call reads or writes.
+fn sheet(c: &Plain) -> Option<Sheet> {
+    let byte = |w: &u64| *w as u8;
+    match c.op {
+        READ => ours::read(&c.lists[0].iter().map(byte).collect::<Vec<u8>>()).ok(),
+        WRITE if c.lists[0].len() % 5 == 0 => {
+            let five = |s: &[u64]| Shape { dims: byte(&s[0]), kind: byte(&s[1]), p: byte(&s[2]), n: byte(&s[3]), z: byte(&s[4]) };
+            let s = Sheet { shapes: c.lists[0].chunks(5).map(five).collect(), patterns: c.lists[1].clone() };
+            (ours::coefficients(&s.shapes) == Some(s.patterns.len() as u64)).then_some(s)
+        }
+        _ => None,
+    }
+}
+
+fn with_sheet(c: &mut Plain, change: impl FnOnce(&mut Sheet) -> Option<()>) -> Option<()> {
+    let mut s = sheet(c)?;
+    change(&mut s)?;
+    let bytes: Vec<u64> = ours::write(&s).into_iter().map(u64::from).collect();
+    if c.op == READ {
+        c.lists[0] = bytes;
+    } else {
+        c.lists = [bytes[2..2 + 5 * s.shapes.len()].to_vec(), s.patterns];
+    }
+    Some(())
+}
+
+/// The coefficients of a sheet's shape at an index.
+fn coefficients(s: &Sheet, i: usize) -> Option<Range<usize>> {
+    let from = ours::coefficients(s.shapes.get(..i)?)? as usize;
+    Some(from..from + (1usize << s.shapes.get(i)?.dims))
+}
+
+fn drop_shape(s: &mut Sheet, i: usize) -> Option<()> {
+    let at = coefficients(s, i)?;
+    s.patterns.drain(at);
+    s.shapes.remove(i);
+    Some(())
+}
+
+fn lower_shape(s: &mut Sheet, i: usize, half: usize) -> Option<()> {
+    let at = coefficients(s, i)?;
+    s.shapes[i].dims = s.shapes[i].dims.checked_sub(1)?;
+    let (n, from) = (at.len() / 2, at.start + (1 - half) * at.len() / 2);
+    s.patterns.drain(from..from + n);
+    Some(())
+}
+
+fn plain_shape(s: &mut Sheet, i: usize) -> Option<()> {
+    let shape = s.shapes.get_mut(i)?;
+    *shape = Shape { dims: shape.dims, ..Shape::default() };
+    Some(())
+}
+
+impl Move {
+    /// The call after this step, where the step fits it.
+    pub fn applied(&self, before: &Plain) -> Option<Plain> {
+        let mut c = before.clone();
+        match self {
+            Move::Vector(i, lists) => lists.iter().try_for_each(|list| without_vector(&mut c, *list, *i))?,
+            Move::Fill(list, at, x) => c.lists[*list].get_mut(at.clone())?.fill(*x),
+            Move::Drop(list, at) => drop(c.lists[*list].get(at.clone()).is_some().then(|| c.lists[*list].drain(at.clone()))?),
+            Move::Round(list, i, digits) => *c.lists[*list].get_mut(*i)? &= u64::MAX << digits,
+            Move::Unscaled(list, i) => {
+                let x = c.lists[*list].get_mut(*i)?;
+                *x = *x & !(2047 << 52) | 1023 << 52
+            }
+            Move::Words(at, words) => c.words.get_mut(*at..at + words.len())?.copy_from_slice(words),
+            Move::DropWord(at) => drop((*at < c.words.len()).then(|| c.words.remove(*at))?),
+            Move::Flavors(flavor) => {
+                let parts = placed(c.op, c.words.len()).into_iter().filter(|(part, ..)| *part == Part::Flavor);
+                parts.for_each(|(_, at, n)| c.words[at..at + n].copy_from_slice(flavor))
+            }
+            Move::Room(which, room) => c.rooms[*which] = *room,
+            Move::DropShape(i) => with_sheet(&mut c, |s| drop_shape(s, *i))?,
+            Move::LowerShape(i, half) => with_sheet(&mut c, |s| lower_shape(s, *i, *half))?,
+            Move::PlainShape(i) => with_sheet(&mut c, |s| plain_shape(s, *i))?,
+            Move::Pattern(i, x) => with_sheet(&mut c, |s| s.patterns.get_mut(*i).map(|pattern| *pattern = *x))?,
+        }
+        Some(c)
+    }
+}
+
+/// The steps to try on a call, the large ones first.
+pub fn moves(c: &Plain) -> Vec<Move> {
+    let mut all = vec![];
+    for i in (0..9).rev() {
+        all.extend([&[0, 1][..], &[0], &[1]].map(|lists| Move::Vector(i, lists)));
+    }
+    if let Some(s) = sheet(c) {
+        sheet_moves(&s, &mut all);
+    }
+    for list in 0..2 {
+        list_moves(c, list, &mut all);
+    }
+    word_moves(c, &mut all);
+    for (which, room) in c.rooms.iter().enumerate() {
+        let less = (0..10).map(|d| 1 << d).chain([0, room / 2, room.saturating_sub(1)]);
+        all.extend(less.map(|room| Move::Room(which, room)));
+    }
+    all
+}
+
+fn sheet_moves(s: &Sheet, all: &mut Vec<Move>) {
+    let shapes = (0..s.shapes.len()).rev();
+    all.extend(shapes.clone().map(Move::DropShape));
+    all.extend(shapes.clone().flat_map(|i| (0..2 * s.shapes[i].dims as usize).map(move |k| Move::LowerShape(i, k % 2))));
+    all.extend(shapes.map(Move::PlainShape));
+    all.extend(
+        (0..s.patterns.len()).flat_map(|i| [0, s.patterns[i] & s.patterns[i].wrapping_sub(1)].map(|x| Move::Pattern(i, x))),
+    );
+}
+
+/// Ever smaller parts are left out or set to 0; then each is tried as a plain number, and with fewer digits.
+fn list_moves(c: &Plain, list: usize, all: &mut Vec<Move>) {
+    let n = c.lists[list].len();
+    let mut part = n;
+    while part > 0 {
+        let parts = || (0..n).step_by(part).map(|from| from..n.min(from + part));
+        if c.dims(list).is_none() && !c.is_one_number(list) {
+            all.extend(parts().rev().map(|at| Move::Drop(list, at)));
+        }
+        all.extend(parts().map(|at| Move::Fill(list, at, 0)));
+        part /= 2;
+    }
+    let plain = if c.has_numbers() { [1.0, -1.0, 2.0, f64::NAN].map(f64::to_bits) } else { [1, 2, 3, 4] };
+    for i in 0..n {
+        all.extend(plain.map(|x| Move::Fill(list, i..i + 1, x)));
+        if c.has_numbers() {
+            all.extend([52, 51, 50, 48, 44, 40, 26, 13, 4, 1].map(|digits| Move::Round(list, i, digits)));
+            all.push(Move::Unscaled(list, i));
+        } else {
+            let x = c.lists[list][i];
+            all.extend([x >> 1, x.saturating_sub(1), x & x.wrapping_sub(1)].map(|x| Move::Fill(list, i..i + 1, x)));
+        }
+    }
+}
+
+fn word_moves(c: &Plain, all: &mut Vec<Move>) {
+    all.extend([[0, 0, 0, 0], [1, 0, 0, 0], [2, 0, 0, 0]].map(Move::Flavors));
+    for (part, at, n) in placed(c.op, c.words.len()) {
+        let w = c.words.get(at).copied().unwrap_or(0);
+        match part {
+            Part::Flavor => flavor_moves(at, &c.words[at..at + n], all),
+            Part::Power => {
+                let (half, less) = (w as u32 as i32 / 2, (w as u32 as i32).saturating_sub(1));
+                let powers = [0, 1, 2, 3, -1, -2, -3, half, half + 1, less, less.saturating_sub(1)];
+                all.extend(powers.map(|p| Move::Words(at, vec![p as u32 as u64])))
+            }
+            Part::Text => {
+                all.extend((at..at + n).rev().map(Move::DropWord));
+                all.extend((at..at + n).flat_map(|i| b" 01".map(|b| Move::Words(i, vec![b.into()]))));
+            }
+            _ => all.extend([0, 1, w / 2, w.saturating_sub(1)].map(|w| Move::Words(at, vec![w]))),
+        }
+    }
+}
+
+fn flavor_moves(at: usize, f: &[u64], all: &mut Vec<Move>) {
+    all.extend([[0, 0, 0, 0], [1, 0, 0, 0], [2, 0, 0, 0], [2, f[1], f[2], f[3]]].map(|f| Move::Words(at, f.to_vec())));
+    for i in 1..4 {
+        all.extend([0, 1, f[i] / 2, f[i].saturating_sub(1)].map(|w| Move::Words(at + i, vec![w])));
+    }
+}

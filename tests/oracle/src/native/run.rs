@@ -1,0 +1,121 @@
+//! The comparison: each call by the Rust and by the exports; the first difference is made small and shown.
+use super::asked::Asked;
+use super::expected::expected;
+use super::exports::actual;
+use super::known::{MANY, known};
+use super::memory::{MARKS, Memory};
+use super::more_lists::spelled;
+use super::table::Table;
+use super::{print, shrink};
+use crate::numbers::Rng;
+use crate::sheets::READ;
+use std::panic::{AssertUnwindSafe, catch_unwind};
+
+/// The side that is compared with the Rust: what it returns and leaves in memory that has a mark.
+pub type Port<'a> = &'a dyn Fn(&Asked, u8) -> Memory;
+
+/// What must be returned and left; none where the Rust panics.
+fn wanted(asked: &Asked, mark: u8) -> Option<Memory> {
+    catch_unwind(AssertUnwindSafe(|| expected(asked, mark))).ok()
+}
+
+/// What must be left, what is left, and the mark that was there before.
+pub struct Difference {
+    pub wanted: Memory,
+    pub given: Memory,
+    pub mark: u8,
+}
+
+/// Where the port differs from the Rust, with one mark or the other.
+pub fn difference(port: Port, asked: &Asked) -> Option<Difference> {
+    MARKS.into_iter().find_map(|mark| {
+        let (wanted, given) = (wanted(asked, mark)?, port(asked, mark));
+        (!wanted.same(&given)).then_some(Difference { wanted, given, mark })
+    })
+}
+
+pub struct Comparison<'a> {
+    port: Port<'a>,
+    spelling: Rng,
+    made: u64,
+    agree: u64,
+    table: Table,
+    /// Of the sheets that were read, as our own reader judges them.
+    good: u64,
+    malformed: u64,
+    first: Option<(u64, Asked)>,
+}
+
+impl<'a> Comparison<'a> {
+    pub fn new(port: Port<'a>, seed: u64) -> Self {
+        let (made, agree, good, malformed) = (0, 0, 0, 0);
+        Comparison { port, spelling: Rng(seed), made, agree, table: Table::new(), good, malformed, first: None }
+    }
+    /// Compares one call, its flavors spelled in this way or that, with either mark in turn.
+    pub fn call(&mut self, asked: Asked) {
+        let asked = spelled(&mut self.spelling, asked);
+        self.made += 1;
+        let mark = MARKS[(self.made % 2) as usize];
+        let Some(wanted) = wanted(&asked, mark) else {
+            self.first.get_or_insert((self.made, asked));
+            return;
+        };
+        if asked.op() == READ {
+            *(if wanted.returned == 9 { &mut self.malformed } else { &mut self.good }) += 1
+        }
+        self.table.count(&asked, wanted.is_refused(known(asked.op()).lends));
+        if wanted.same(&(self.port)(&asked, mark)) {
+            self.agree += 1
+        } else {
+            self.first.get_or_insert((self.made, asked));
+        }
+    }
+    pub fn agreeing(&self) -> u64 {
+        self.agree
+    }
+    /// The first call that differs.
+    pub fn first(&self) -> Option<&Asked> {
+        self.first.as_ref().map(|(_, asked)| asked)
+    }
+    /// Says whether all agree, shows the first that does not, and what was compared.
+    pub fn says(self, count: u64, seed: u64) {
+        let start = if self.agree == self.made { "ok" } else { "FAILED" };
+        println!(
+            "{start}: {} of {} calls through the exports agree, {count} of each kind drawn from seed {seed}",
+            self.agree, self.made
+        );
+        if let Some((number, asked)) = &self.first {
+            show(self.port, *number, asked, seed);
+        }
+        self.table.print();
+        let missing = self.table.missing();
+        match missing.is_empty() {
+            true => println!("ok: each of the {MANY} calls was compared, and with each d from 0 to 9 where it has dimensions"),
+            false => println!("FAILED: never compared: {}", missing.join(", ")),
+        }
+        let start = if self.good > 0 && self.malformed > 0 { "ok" } else { "FAILED" };
+        println!("{start}: sheets read among them: {} good and {} malformed", self.good, self.malformed);
+    }
+}
+
+/// The first call that differs, as it was asked and made small.
+fn show(port: Port, number: u64, asked: &Asked, seed: u64) {
+    println!("  call {number} of seed {seed} is the first that differs:");
+    print::call(asked);
+    let small = shrink::shrunk(port, asked);
+    match difference(port, &small) {
+        Some(difference) => {
+            println!("  made small, it still differs:");
+            print::call(&small);
+            print::both(&small, difference);
+        }
+        None => println!("  the Rust panics, though nothing refuses this call"),
+    }
+}
+
+/// Every call by the exports.
+pub fn compare(count: u64, seed: u64) {
+    let mut comparison = Comparison::new(&actual, seed);
+    super::lists::compared(count, seed, &mut |asked| comparison.call(asked));
+    comparison.says(count, seed);
+}

@@ -1,0 +1,62 @@
+//! How many calls were compared, by name and by dimensions.
+use super::asked::{Asked, has_dims};
+use super::known::{MANY, known};
+use crate::masks::N_1_BLADES;
+
+/// The column of calls that name no dimension, or one above 9.
+const NONE: usize = 10;
+
+type Counts = [[u64; NONE + 1]; MANY];
+
+/// For each call, how many name so many dimensions, and how many of these are refused.
+pub struct Table {
+    all: Counts,
+    refused: Counts,
+}
+
+impl Table {
+    pub fn new() -> Table {
+        Table { all: [[0; NONE + 1]; MANY], refused: [[0; NONE + 1]; MANY] }
+    }
+    pub fn count(&mut self, asked: &Asked, is_refused: bool) {
+        let row = asked.op() as usize - 1;
+        let column = asked.dims().map_or(NONE, |d| NONE.min(d as usize));
+        self.all[row][column] += 1;
+        self.refused[row][column] += is_refused as u64;
+    }
+    /// One line for each call, and one for all.
+    pub fn print(&self) {
+        let line = |name: &str, all: &[u64], refused: u64| {
+            let columns: String = all.iter().map(|n| format!("{n:9}")).collect();
+            println!("{name:>18}{columns}{:10}{refused:9}", all.iter().sum::<u64>());
+        };
+        let head: String = (0..NONE).map(|d| format!("{d:9}")).collect();
+        println!("{:>18}{head}     none       all  refused", "calls with d =");
+        for (row, all) in self.all.iter().enumerate() {
+            line(known(row as u64 + 1).name, all, self.refused[row].iter().sum());
+        }
+        let columns: Vec<u64> = (0..=NONE).map(|d| self.all.iter().map(|row| row[d]).sum()).collect();
+        line("every call", &columns, self.refused.iter().flatten().sum());
+    }
+    /// The calls of which none that is done was compared, or none with some number of dimensions that it can have.
+    pub fn missing(&self) -> Vec<String> {
+        let mut list = vec![];
+        for op in 1..=MANY as u64 {
+            let (all, refused, name) = (&self.all[op as usize - 1], &self.refused[op as usize - 1], known(op).name);
+            if all == refused {
+                list.push(name.to_string());
+            }
+            if has_dims(op) {
+                list.extend(
+                    (can_be_done_from(op)..NONE).filter(|d| all[*d] == refused[*d]).map(|d| format!("{name} with d = {d}")),
+                );
+            }
+        }
+        list
+    }
+}
+
+/// The fewest dimensions with which a call can be done: `n_1_blades` refuses fewer than two numbers.
+pub fn can_be_done_from(op: u64) -> usize {
+    if op == N_1_BLADES { 2 } else { 0 }
+}
