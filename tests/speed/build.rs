@@ -1,9 +1,32 @@
-// Links the archive that tests/speed/run makes.
-use std::env;
+// Links the archive of the crate `exports`: $THRESHOLM_ARCHIVE, or the one that tools/native-archive makes.
+use std::path::{Path, PathBuf};
+use std::process::{Command, Stdio};
+use std::{env, fs};
+
+/// The last line of what tools/native-archive says is the path of the archive that it made.
+fn made(root: &Path) -> PathBuf {
+    println!("cargo:rerun-if-changed={}", root.join("crates").display());
+    println!("cargo:rerun-if-changed={}", root.join("tools/native-archive").display());
+    let tool = Command::new("bash").args(["tools/native-archive", "exports"]).current_dir(root).stderr(Stdio::inherit()).output();
+    let said = tool.expect("bash is at hand");
+    assert!(said.status.success(), "tools/native-archive made no archive");
+    let lines = String::from_utf8(said.stdout).expect("text");
+    root.join(lines.lines().last().expect("a path"))
+}
+
+/// The compiler's name and number, without its date.
+fn rust_version() -> String {
+    let said = Command::new(env::var("RUSTC").unwrap()).arg("--version").output().expect("rustc");
+    String::from_utf8(said.stdout).expect("text").split(" (").next().unwrap().trim().to_string()
+}
 
 fn main() {
-    let here = env::var("CARGO_MANIFEST_DIR").unwrap();
-    println!("cargo:rustc-link-search=native={here}/target");
-    println!("cargo:rustc-link-lib=static=timed");
-    println!("cargo:rerun-if-changed=target/libtimed.a");
+    println!("cargo:rustc-env=RUST_VERSION={}", rust_version());
+    println!("cargo:rerun-if-env-changed=THRESHOLM_ARCHIVE");
+    let root = fs::canonicalize("../..").expect("the repository");
+    let archive = env::var("THRESHOLM_ARCHIVE").map(PathBuf::from).unwrap_or_else(|_| made(&root));
+    let archive = fs::canonicalize(&archive).unwrap_or_else(|e| panic!("{}: {e}", archive.display()));
+    println!("cargo:rerun-if-changed={}", archive.display());
+    println!("cargo:rustc-link-search=native={}", archive.parent().unwrap().display());
+    println!("cargo:rustc-link-lib=static:+verbatim={}", archive.file_name().unwrap().to_str().unwrap());
 }

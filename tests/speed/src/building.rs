@@ -1,0 +1,101 @@
+//! The calls of the crate `masks` that build a value from few numbers, and that unpack it.
+use crate::measure::Timed;
+use crate::sys;
+use crate::table::Row;
+use crate::values::{Lent, cell, dense, kind, lists, same_list, same_value};
+use uiua::SubSide::{Left, Right};
+use uiua_parser::Flavor::{self, Projective};
+use uiua_parser::multivector::Multivector;
+
+fn vector(d: u8) -> Timed {
+    let v = lists(d as usize);
+    cell(|i| Multivector::vector(&v[i][..], Projective), built!(thresholm_vector, v, Projective), same_value)
+}
+
+fn n_1_blades(d: u8) -> Timed {
+    let v = lists(d as usize);
+    cell(|i| Multivector::n_1_blades(&v[i][..], Projective), built!(thresholm_n_1_blades, v, Projective), same_value)
+}
+
+/// Projective, so the value has one dimension more than is stated.
+fn scalar(d: u8) -> Timed {
+    let x = lists(1);
+    let ours = |i: usize, to: &mut Lent| {
+        let [dims, k, p, n, z] = &mut to.shape;
+        let (out, room) = (to.out.as_mut_ptr(), to.out.len());
+        unsafe { sys::thresholm_scalar(d - 1, x[i][0], kind(Projective), 0, 0, 0, out, room, dims, k, p, n, z) }
+    };
+    cell(|i| Multivector::scalar(d - 1, x[i][0], Projective), ours, same_value)
+}
+
+fn pseudoscalar(d: u8) -> Timed {
+    let x = lists(1);
+    let ours = |i: usize, to: &mut Lent| {
+        let [dims, k, p, n, z] = &mut to.shape;
+        let (out, room) = (to.out.as_mut_ptr(), to.out.len());
+        unsafe { sys::thresholm_pseudoscalar(d - 1, x[i][0], kind(Projective), 0, 0, 0, out, room, dims, k, p, n, z) }
+    };
+    cell(|i| Multivector::pseudoscalar(d - 1, x[i][0], Projective), ours, same_value)
+}
+
+fn blades_left(d: u8, count: usize) -> Timed {
+    let (v, flavor): (_, Flavor) = (lists(count), Projective);
+    let theirs = |i: usize| Multivector::blades_left(d, &v[i][..], flavor).unwrap();
+    cell(theirs, built!(thresholm_blades_left, v, flavor, d), same_value)
+}
+
+fn blades_right(d: u8, count: usize) -> Timed {
+    let (v, flavor): (_, Flavor) = (lists(count), Projective);
+    let theirs = |i: usize| Multivector::blades_right(d, &v[i][..], flavor).unwrap();
+    cell(theirs, built!(thresholm_blades_right, v, flavor, d), same_value)
+}
+
+fn unpack_all(d: u8, stated: u8) -> Timed {
+    let v = dense(Projective, d);
+    cell(|i| uiua::unpack(v.own(i), Some(stated), None).unwrap(), unpacked!(thresholm_unpack_all, v, stated), |r, to| same_list(r, to))
+}
+
+fn unpack_even(d: u8) -> Timed {
+    let v = dense(Projective, d);
+    cell(|i| uiua::unpack(v.own(i), Some(d), Some(Left)).unwrap(), unpacked!(thresholm_unpack_even, v, d), |r, to| same_list(r, to))
+}
+
+fn unpack_odd(d: u8) -> Timed {
+    let v = dense(Projective, d);
+    cell(|i| uiua::unpack(v.own(i), Some(d), Some(Right)).unwrap(), unpacked!(thresholm_unpack_odd, v, d), |r, to| same_list(r, to))
+}
+
+fn unpack_own_even(d: u8) -> Timed {
+    let v = dense(Projective, d);
+    cell(|i| uiua::unpack(v.own(i), None, Some(Left)).unwrap(), unpacked!(thresholm_unpack_own_even, v), |r, to| same_list(r, to))
+}
+
+fn unpack_own_odd(d: u8) -> Timed {
+    let v = dense(Projective, d);
+    cell(|i| uiua::unpack(v.own(i), None, Some(Right)).unwrap(), unpacked!(thresholm_unpack_own_odd, v), |r, to| same_list(r, to))
+}
+
+fn unpack_vector(d: u8) -> Timed {
+    let v = dense(Projective, d);
+    cell(|i| uiua::unpack(v.own(i), None, None).unwrap(), unpacked!(thresholm_unpack_vector, v), |r, to| same_list(r, to))
+}
+
+pub const ROWS: &[Row] = &[
+    Row { call: "vector", of: "d numbers", at: vector },
+    Row { call: "n_1_blades", of: "d numbers", at: n_1_blades },
+    Row { call: "scalar", of: "", at: scalar },
+    Row { call: "pseudoscalar", of: "", at: pseudoscalar },
+    Row { call: "blades_left", of: "all blades", at: |d| blades_left(d, 1 << d) },
+    Row { call: "blades_left", of: "the even blades", at: |d| blades_left(d, 1 << (d - 1)) },
+    Row { call: "blades_left", of: "d numbers", at: |d| blades_left(d, d as usize) },
+    Row { call: "blades_right", of: "all blades", at: |d| blades_right(d, 1 << d) },
+    Row { call: "blades_right", of: "the odd blades", at: |d| blades_right(d, 1 << (d - 1)) },
+    Row { call: "blades_right", of: "d numbers", at: |d| blades_right(d, d as usize) },
+    Row { call: "unpack_all", of: "at d", at: |d| unpack_all(d, d) },
+    Row { call: "unpack_all", of: "at d + 1", at: |d| unpack_all(d, d + 1) },
+    Row { call: "unpack_even", of: "at d", at: unpack_even },
+    Row { call: "unpack_odd", of: "at d", at: unpack_odd },
+    Row { call: "unpack_own_even", of: "", at: unpack_own_even },
+    Row { call: "unpack_own_odd", of: "", at: unpack_own_odd },
+    Row { call: "unpack_vector", of: "", at: unpack_vector },
+];

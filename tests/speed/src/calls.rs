@@ -1,0 +1,89 @@
+//! The calls of ours, as closures over the index of an input and what is written to. What stands after the values' name goes
+//! between the shape and the numbers; what stands after a semicolon is written to beside the shape.
+
+/// One value in, and one out.
+macro_rules! one {
+    ($call:ident, $v:expr $(, $more:expr)* $(; $also:ident)?) => {
+        |i: usize, to: &mut Lent| {
+            let (v, a) = (&$v, &$v.numbers[i]);
+            let [dims, kind, p, n, z] = &mut to.shape;
+            let (out, room) = (to.out.as_mut_ptr(), to.out.len());
+            unsafe {
+                sys::$call(
+                    v.dims, v.kind(), 0, 0, 0, $($more,)* a.as_ptr(), a.len(), out, room, dims, kind, p, n, z $(, &mut to.$also)?
+                )
+            }
+        }
+    };
+}
+
+/// Two values in, the second one of `$w` and of the next index, and one out.
+macro_rules! two {
+    ($call:ident, $v:expr, $w:expr $(; $also:ident)?) => {
+        |i: usize, to: &mut Lent| {
+            let (v, w) = (&$v, &$w);
+            let (a, b) = (&v.numbers[i], &w.numbers[(i + 1) % INPUTS]);
+            let [dims, kind, p, n, z] = &mut to.shape;
+            let (out, room) = (to.out.as_mut_ptr(), to.out.len());
+            unsafe {
+                sys::$call(
+                    v.dims, v.kind(), 0, 0, 0, w.dims, w.kind(), 0, 0, 0, a.as_ptr(), a.len(), b.as_ptr(), b.len(), out, room,
+                    dims, kind, p, n, z $(, &mut to.$also)?
+                )
+            }
+        }
+    };
+}
+
+/// One value in, and out come only the numbers that are named.
+macro_rules! asked {
+    ($call:ident, $v:expr $(, $more:expr)* ; $($also:ident),*) => {
+        |i: usize, to: &mut Lent| {
+            let (v, a) = (&$v, &$v.numbers[i]);
+            unsafe { sys::$call(v.dims, v.kind(), 0, 0, 0, $($more,)* a.as_ptr(), a.len(), $(&mut to.$also),*) }
+        }
+    };
+}
+
+/// Two values in, and one number out.
+macro_rules! compared {
+    ($call:ident, $v:expr, $w:expr, $next:expr ; $also:ident) => {
+        |i: usize, to: &mut Lent| {
+            let (v, w) = (&$v, &$w);
+            let (a, b) = (&v.numbers[i], &w.numbers[(i + $next) % INPUTS]);
+            unsafe {
+                sys::$call(
+                    v.dims, v.kind(), 0, 0, 0, w.dims, w.kind(), 0, 0, 0, a.as_ptr(), a.len(), b.as_ptr(), b.len(),
+                    &mut to.$also,
+                )
+            }
+        }
+    };
+}
+
+/// One value in, and out a list of its numbers.
+macro_rules! unpacked {
+    ($call:ident, $v:expr $(, $d:expr)?) => {
+        |i: usize, to: &mut Lent| {
+            let (v, a) = (&$v, &$v.numbers[i]);
+            let (out, room) = (to.out.as_mut_ptr(), to.out.len());
+            unsafe { sys::$call(v.dims, v.kind(), 0, 0, 0, $($d,)? a.as_ptr(), a.len(), out, room, &mut to.count) }
+        }
+    };
+}
+
+/// A list of numbers in, and one value out, Vanilla or Projective.
+macro_rules! built {
+    ($call:ident, $lists:expr, $flavor:expr $(, $dims:expr)?) => {
+        |i: usize, to: &mut Lent| {
+            let v = &$lists[i];
+            let [dims, kind, p, n, z] = &mut to.shape;
+            let (out, room) = (to.out.as_mut_ptr(), to.out.len());
+            unsafe {
+                sys::$call(
+                    $($dims,)? v.as_ptr(), v.len(), crate::values::kind($flavor), 0, 0, 0, out, room, dims, kind, p, n, z
+                )
+            }
+        }
+    };
+}
