@@ -25,7 +25,7 @@ fn stop(message: &str) -> ! {
 /// Runs `tools/native-archive exports` in the repository; the last line that it prints is the path of the archive.
 fn built_archive() -> PathBuf {
     let root = PathBuf::from(env::var_os("CARGO_MANIFEST_DIR").unwrap_or_default()).join("..");
-    for source in ["crates", "tools/native-archive"] {
+    for source in ["crates", "crates.txt", "tools/native-archive"] {
         println!("cargo:rerun-if-changed={}", root.join(source).display());
     }
     same_machine();

@@ -26,7 +26,7 @@ pub enum Flavor {
 }
 
 impl Flavor {
-    /// The flavor in which every basis vector squares to 0.
+    /// The flavor in which every basis vector that a value has squares to 0.
     pub const NULL: Flavor = Flavor::Cl(0, 0, 255);
 
     /// What the basis vector of an index squares to: -1, 0 or 1.

@@ -94,7 +94,7 @@ impl Multivector {
         lent::grade(self.shape, grade, &self.numbers)
     }
 
-    /// The value at other dimensions: grown with zeros, or without the blades that are outside. From 3 and to 3 the sign of e31 turns, since
+    /// The value at other dimensions: grown with zeros, or without the blades that are outside. Growing from 3, and shrinking to 3, turns the sign of e31, since
     /// place 5 means e31 at 3 dimensions alone. Refused with [`Error::TooManyDims`].
     pub fn set_dims(&self, new_dims: u8) -> Result<Multivector, Error> {
         made(new_dims, |out| {

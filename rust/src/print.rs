@@ -36,7 +36,8 @@ fn write_sign(f: &mut fmt::Formatter<'_>, number: f64, wrote: bool) -> fmt::Resu
 
 impl fmt::Display for Multivector {
     /// Prints the terms that are not zero, as in `3 + 2e₁ - e₁₂`; a leading minus is `¯`. Basis vectors are numbered from 1, or from 0 where the
-    /// first one squares to 0.
+    /// first one squares to 0. The blade of the first and the third is printed `e₃₁`, which it is at 3 dimensions alone: from 4 on that text stands
+    /// for e13, as in the workstation.
     ///
     /// ```
     /// use thresholm::{Flavor, Multivector, Shape};

@@ -5,8 +5,9 @@ use std::{env, fs};
 
 /// The last line of what tools/native-archive says is the path of the archive that it made.
 fn made(root: &Path) -> PathBuf {
-    println!("cargo:rerun-if-changed={}", root.join("crates").display());
-    println!("cargo:rerun-if-changed={}", root.join("tools/native-archive").display());
+    for source in ["crates", "crates.txt", "tools/native-archive"] {
+        println!("cargo:rerun-if-changed={}", root.join(source).display());
+    }
     let tool = Command::new("bash").args(["tools/native-archive", "exports"]).current_dir(root).stderr(Stdio::inherit()).output();
     let said = tool.expect("bash is at hand");
     assert!(said.status.success(), "tools/native-archive made no archive");
@@ -24,7 +25,8 @@ fn main() {
     println!("cargo:rustc-env=RUST_VERSION={}", rust_version());
     println!("cargo:rerun-if-env-changed=THRESHOLM_ARCHIVE");
     let root = fs::canonicalize("../..").expect("the repository");
-    let archive = env::var("THRESHOLM_ARCHIVE").map(PathBuf::from).unwrap_or_else(|_| made(&root));
+    let named = env::var_os("THRESHOLM_ARCHIVE").filter(|path| !path.is_empty());
+    let archive = named.map_or_else(|| made(&root), PathBuf::from);
     let archive = fs::canonicalize(&archive).unwrap_or_else(|e| panic!("{}: {e}", archive.display()));
     println!("cargo:rerun-if-changed={}", archive.display());
     println!("cargo:rustc-link-search=native={}", archive.parent().unwrap().display());

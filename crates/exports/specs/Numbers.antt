@@ -1,12 +1,10 @@
 -- Shapes, flavors and answers as numbers. Assumes nothing.
 use mathlib.Core.Bool.{Bool, cond}
-use mathlib.Core.List.{List, []}
-use Prim.Native.Nat.{ℕ, _/_, min}
+use Prim.Native.Nat.{ℕ}
 use lib.Ieee.{Float}
 use lib.IntN.{ℤ, pos, negsuc}
-use lib.ListN.{length}
 use Rattle.masks.specs.declared.shape.Shape.{Shape}
-use Rattle.masks.specs.Outcome.{shapeOf, laid}
+use Rattle.masks.specs.Outcome.{shapeOf}
 use Rattle.masks.specs.Shapes.{nought}
 use Rattle.arithmetic.specs.declared.outcome.Ordering.{Ordering}
 use Rattle.arithmetic.specs.declared.outcome.Ordering.the-variants.{Less, Equal, Greater}

@@ -1,14 +1,12 @@
--- What a call has on numbers that it has not on records: the order in two outputs, a grade by its place, the shapes of a sheet as bytes. Assumes nothing.
+-- What a call has on numbers that it has not on records: the order in two outputs, the shapes of a sheet as bytes. Assumes nothing.
 use mathlib.Core.Path.{_≡_}
 use mathlib.Core.Bool.{not}
 use mathlib.Core.List.{List, [], _∷_, map}
 use Prim.Native.Nat.{ℕ, _*_, _/_, _%_, _^_, min}
 use lib.Dec.{eqb}
 use lib.ListN.{length, take, drop}
-use Rattle.masks.specs.declared.shape.Shape.{Shape}
-use Rattle.masks.specs.Order.{order, place, upFrom, taken, size, start}
+use Rattle.masks.specs.Order.{order, place, upFrom, taken}
 use Rattle.masks.specs.Outcome.{Test, Written, refusal, noRoom, unless, refusedList, laid}
-use Rattle.masks.specs.Shapes.{gradeRefusal}
 use Rattle.sheets.specs.declared.shapes.Shapes.{Shapes}
 use Rattle.sheets.specs.declared.shapes.Placed.{Placed}
 use Rattle.sheets.specs.Bytes.{parts, allBytes}

@@ -25,7 +25,7 @@ pub extern "C" fn thresholm_metric(kind: u8, p: u8, n: u8, z: u8, index: u8) -> 
     metric_number(flavor_from(kind, p, n, z).metric(index))
 }
 
-// The flavor in which every basis vector squares to 0.
+// The flavor in which every basis vector that a value has squares to 0.
 #[no_mangle]
 pub extern "C" fn thresholm_null_flavor(
     to_kind: &mut u8,

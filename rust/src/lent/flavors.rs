@@ -12,7 +12,7 @@ pub fn metric(flavor: Flavor, index: u8) -> i8 {
     unsafe { sys::thresholm_metric(kind, p, n, z, index) }
 }
 
-/// The flavor in which every basis vector squares to 0.
+/// The flavor in which every basis vector that a value has squares to 0.
 #[must_use]
 pub fn null_flavor() -> Flavor {
     let mut to = [0; 4];

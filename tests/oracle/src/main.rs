@@ -49,11 +49,18 @@ fn write_stored(wrong: Wrong) -> io::Result<()> {
     Ok(())
 }
 
+/// Says how the program is used.
+fn misused() -> ! {
+    eprintln!("{USAGE}");
+    std::process::exit(2)
+}
+
 fn main() -> io::Result<()> {
+    // Where the Rust panics, the comparison says so by itself.
     std::panic::set_hook(Box::new(|_| {}));
     let args: Vec<String> = std::env::args().skip(1).collect();
     let words: Vec<&str> = args.iter().map(String::as_str).collect();
-    let number = |i: usize, usual: u64| args.get(i).and_then(|w| w.parse::<u64>().ok()).unwrap_or(usual);
+    let number = |i: usize, usual: u64| args.get(i).map_or(usual, |word| word.parse().unwrap_or_else(|_| misused()));
     let (count, seed) = (number(1, 3_000), number(2, 2));
     match words[..] {
         ["compare", ..] => native::run::compare(count, seed),
@@ -63,10 +70,7 @@ fn main() -> io::Result<()> {
         ["stored"] => write_stored(Wrong::None)?,
         ["wrong"] => write_stored(Wrong::Hundredth)?,
         ["wrong", "sheets"] => write_stored(Wrong::Sheets)?,
-        _ => {
-            eprintln!("{USAGE}");
-            std::process::exit(2);
-        }
+        _ => misused(),
     }
     Ok(())
 }

@@ -120,7 +120,6 @@ fn lined(c: &SheetCall) -> SheetCall {
     c
 }
 
-/// Bytes past the last five are refused with 2, or with 1 where a dimension of the shapes is above 9.
 /// Bytes past the last whole shape refuse 2, and 1 comes first where a shape that is held has too many dimensions.
 fn sheet(c: &SheetCall, m: &mut Memory) {
     if [WRITE, VALUE_AT].contains(&c.op) && c.first.len() % 5 != 0 {

@@ -11,6 +11,9 @@ use crate::numbers::Rng;
 use crate::sheets::READ;
 use std::panic::{AssertUnwindSafe, catch_unwind};
 
+/// The least number of calls that a comparison is made of, however few are drawn.
+const LEAST: u64 = 1_000_000;
+
 /// The side that is compared with the Rust: what it returns and leaves in memory that has a mark.
 pub type Port<'a> = &'a dyn Fn(&Asked, u8) -> Memory;
 
@@ -93,6 +96,8 @@ impl<'a> Comparison<'a> {
             true => println!("ok: each of the {MANY} calls was compared, and with each d from 0 to 9 where it has dimensions"),
             false => println!("FAILED: never compared: {}", missing.join(", ")),
         }
+        let start = if self.made >= LEAST { "ok" } else { "FAILED" };
+        println!("{start}: at least {LEAST} calls were compared");
         let start = if self.good > 0 && self.malformed > 0 { "ok" } else { "FAILED" };
         println!("{start}: sheets read among them: {} good and {} malformed", self.good, self.malformed);
     }
@@ -115,6 +120,7 @@ fn show(port: Port, number: u64, asked: &Asked, seed: u64) {
 
 /// Every call by the exports.
 pub fn compare(count: u64, seed: u64) {
+    println!("{count} calls of each kind are drawn from seed {seed}");
     let mut comparison = Comparison::new(&actual, seed);
     super::lists::compared(count, seed, &mut |asked| comparison.call(asked));
     comparison.says(count, seed);
