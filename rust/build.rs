@@ -9,10 +9,7 @@ fn main() {
     let archive = named.map_or_else(built_archive, PathBuf::from);
     match archive.canonicalize() {
         Ok(archive) => link(&archive),
-        Err(error) => stop(&format!(
-            "there is no archive at {}: {error}",
-            archive.display()
-        )),
+        Err(error) => stop(&format!("there is no archive at {}: {error}", archive.display())),
     }
 }
 
@@ -75,9 +72,6 @@ fn link(archive: &Path) {
             println!("cargo:rustc-link-search=native={}", folder.display());
             println!("cargo:rustc-link-lib=static={name}");
         }
-        _ => stop(&format!(
-            "{} is not named as an archive, libNAME.a",
-            archive.display()
-        )),
+        _ => stop(&format!("{} is not named as an archive, libNAME.a", archive.display())),
     }
 }

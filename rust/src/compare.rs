@@ -25,8 +25,7 @@ impl Multivector {
     /// (`[5] < [0,1] < [3,0,0,0] < [5]`), so that nothing can be sorted by it.
     #[must_use]
     pub fn rust_cmp(&self, other: &Multivector) -> Ordering {
-        lent::cmp(self.shape(), other.shape(), self.numbers(), other.numbers())
-            .unwrap_or(Ordering::Equal)
+        lent::cmp(self.shape(), other.shape(), self.numbers(), other.numbers()).unwrap_or(Ordering::Equal)
     }
 
     /// Whether both have the same shape and the same bits in every place: -0 differs from 0, and a NaN from another NaN.

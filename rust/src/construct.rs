@@ -31,16 +31,12 @@ impl Multivector {
     /// # Ok::<(), thresholm::Error>(())
     /// ```
     pub fn scalar(dims: u8, x: f64, flavor: Flavor) -> Result<Multivector, Error> {
-        made(dims.saturating_add(1), |out| {
-            lent::scalar(dims, x, flavor, out)
-        })
+        made(dims.saturating_add(1), |out| lent::scalar(dims, x, flavor, out))
     }
 
     /// A value whose last place is x. Under Projective it has one dimension more than is stated. Refused with [`Error::TooManyDims`].
     pub fn pseudoscalar(dims: u8, x: f64, flavor: Flavor) -> Result<Multivector, Error> {
-        made(dims.saturating_add(1), |out| {
-            lent::pseudoscalar(dims, x, flavor, out)
-        })
+        made(dims.saturating_add(1), |out| lent::pseudoscalar(dims, x, flavor, out))
     }
 
     /// A value from a packing of its numbers: a full set, which becomes Vanilla whatever flavor is given; half of them, which are the even grades; or

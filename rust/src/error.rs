@@ -4,10 +4,15 @@ use std::fmt;
 /// Why a call was refused: one variant for each refusal number. A refused call has written nothing.
 ///
 /// ```
-/// use thresholm::{Error, Flavor, Multivector};
+/// use thresholm::{Error, Flavor, Multivector, Sheet};
 /// let refused = Multivector::vector(&[1.0; 10], Flavor::Vanilla).unwrap_err();
 /// assert_eq!(refused, Error::TooManyDims);
 /// assert_eq!(refused.number(), 1);
+///
+/// let none = Sheet::from_values(&[])?.value(99).unwrap_err();
+/// assert_eq!(none, Error::WrongCount);
+/// assert!(none.to_string().ends_with("no packing has that many, or there is no such value"));
+/// # Ok::<(), Error>(())
 /// ```
 #[derive(Clone, Copy, Debug, PartialEq, Eq, Hash)]
 #[non_exhaustive]
@@ -71,9 +76,7 @@ impl Error {
     /// ```
     #[must_use]
     pub fn from_number(number: u8) -> Option<Error> {
-        Error::ALL
-            .into_iter()
-            .find(|error| error.number() == number)
+        Error::ALL.into_iter().find(|error| error.number() == number)
     }
 
     /// What a call has answered with its number. No call answers with a number above 9.
@@ -90,7 +93,7 @@ impl fmt::Display for Error {
         f.write_str(match self {
             Error::TooManyDims => "a value here or in the result would have more than 9 dimensions",
             Error::WrongCount => {
-                "a count does not fit: a value of d dimensions has 2^d numbers, and a sheet has at most 64 values and 4096 numbers"
+                "a count does not fit: a value of d dimensions has 2^d numbers and a sheet at most 64 values and 4096 numbers, no packing has that many, or there is no such value"
             }
             Error::NoRoom => "there is not enough room for the result",
             Error::NoSuchGrade => "the value has no such grade: grades go from 0 to the number of its dimensions",

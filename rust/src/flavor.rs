@@ -80,9 +80,7 @@ impl fmt::Display for Flavor {
         // The longest text, `Cl 255 255 255`, has 14 bytes.
         let mut text = [0; 14];
         let count = lent::write_to(*self, &mut text).unwrap_or(0);
-        text.iter()
-            .take(count)
-            .try_for_each(|&byte| fmt::Write::write_char(f, char::from(byte)))
+        text.iter().take(count).try_for_each(|&byte| fmt::Write::write_char(f, char::from(byte)))
     }
 }
 

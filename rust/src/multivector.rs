@@ -76,9 +76,7 @@ impl Multivector {
     pub fn set_blade(&self, mask: usize, x: f64) -> Result<Multivector, Error> {
         let bits = usize::BITS - mask.leading_zeros();
         let dims = self.dims().max(u8::try_from(bits).unwrap_or(u8::MAX));
-        made(dims, |out| {
-            lent::set_blade(self.shape, mask, x, &self.numbers, out)
-        })
+        made(dims, |out| lent::set_blade(self.shape, mask, x, &self.numbers, out))
     }
 
     /// The numbers of one grade. Refused with [`Error::NoSuchGrade`] above the dimensions.
@@ -97,9 +95,7 @@ impl Multivector {
     /// The value at other dimensions: grown with zeros, or without the blades that are outside. Growing from 3, and shrinking to 3, turns the sign of e31, since
     /// place 5 means e31 at 3 dimensions alone. Refused with [`Error::TooManyDims`].
     pub fn set_dims(&self, new_dims: u8) -> Result<Multivector, Error> {
-        made(new_dims, |out| {
-            lent::set_dims(self.shape, new_dims, &self.numbers, out)
-        })
+        made(new_dims, |out| lent::set_dims(self.shape, new_dims, &self.numbers, out))
     }
 
     /// The value in another flavor: promoted by one dimension from Vanilla to Projective, else renamed. Refused with [`Error::TooManyDims`].
@@ -112,16 +108,12 @@ impl Multivector {
     /// ```
     pub fn set_flavor(&self, new_flavor: Flavor) -> Result<Multivector, Error> {
         let dims = self.shape.met_dims(Shape::new(0, new_flavor));
-        made(dims, |out| {
-            lent::set_flavor(self.shape, new_flavor, &self.numbers, out)
-        })
+        made(dims, |out| lent::set_flavor(self.shape, new_flavor, &self.numbers, out))
     }
 
     /// The value promoted and grown to another's shape, as `*` and `+` by a scalar do it. Refused with [`Error::TooManyDims`].
     pub fn conform_to(&self, other: Shape) -> Result<Multivector, Error> {
-        made(self.shape.met_dims(other), |out| {
-            lent::conform_to(self.shape, other, &self.numbers, out)
-        })
+        made(self.shape.met_dims(other), |out| lent::conform_to(self.shape, other, &self.numbers, out))
     }
 
     /// Both values at the flavor and the dimensions that they meet in. Refused with [`Error::TooManyDims`].
@@ -129,30 +121,14 @@ impl Multivector {
         let dims = self.shape.met_dims(other.shape);
         let mut out_right = vec![0.0; room(dims)];
         let (value, right) = made_with(dims, |out| {
-            lent::conform(
-                self.shape,
-                other.shape,
-                &self.numbers,
-                &other.numbers,
-                out,
-                &mut out_right,
-            )
+            lent::conform(self.shape, other.shape, &self.numbers, &other.numbers, out, &mut out_right)
         })?;
         out_right.truncate(room(right.dims));
-        Ok((
-            value,
-            Multivector {
-                shape: right,
-                numbers: out_right,
-            },
-        ))
+        Ok((value, Multivector { shape: right, numbers: out_right }))
     }
 
     /// What a call gives that keeps the shape and that no value can be refused by. Were it refused, the NaN that is lent would stay.
-    pub(crate) fn kept(
-        &self,
-        call: impl FnOnce(Shape, &[f64], &mut [f64]) -> Result<Shape, Error>,
-    ) -> Multivector {
+    pub(crate) fn kept(&self, call: impl FnOnce(Shape, &[f64], &mut [f64]) -> Result<Shape, Error>) -> Multivector {
         let mut numbers = vec![f64::NAN; self.numbers.len()];
         let shape = call(self.shape, &self.numbers, &mut numbers).unwrap_or(self.shape);
         Multivector { shape, numbers }
@@ -160,10 +136,7 @@ impl Multivector {
 }
 
 /// What a call gives whose result has at most `dims` dimensions.
-pub(crate) fn made(
-    dims: u8,
-    call: impl FnOnce(&mut [f64]) -> Result<Shape, Error>,
-) -> Result<Multivector, Error> {
+pub(crate) fn made(dims: u8, call: impl FnOnce(&mut [f64]) -> Result<Shape, Error>) -> Result<Multivector, Error> {
     let (value, ()) = made_with(dims, |out| call(out).map(|shape| (shape, ())))?;
     Ok(value)
 }

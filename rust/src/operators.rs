@@ -60,27 +60,13 @@ impl Multivector {
     /// What a call gives whose result stands at most in the dimensions that both values meet in.
     pub(crate) fn met(&self, other: &Multivector, call: TwoValues) -> Result<Multivector, Error> {
         made(self.shape().met_dims(other.shape()), |out| {
-            call(
-                self.shape(),
-                other.shape(),
-                self.numbers(),
-                other.numbers(),
-                out,
-            )
+            call(self.shape(), other.shape(), self.numbers(), other.numbers(), out)
         })
     }
 
     /// The same with a number for the other value.
     fn met_number(&self, x: f64, call: TwoValues) -> Result<Multivector, Error> {
-        made(self.dims(), |out| {
-            call(
-                self.shape(),
-                Shape::new(0, Flavor::Vanilla),
-                self.numbers(),
-                &[x],
-                out,
-            )
-        })
+        made(self.dims(), |out| call(self.shape(), Shape::new(0, Flavor::Vanilla), self.numbers(), &[x], out))
     }
 }
 
@@ -130,14 +116,10 @@ operator_f64!(Mul, mul, &Multivector, |value, f| Ok(value.mul_f64(f)));
 operator_f64!(Mul, mul, Multivector, |value, f| Ok(value.mul_f64(f)));
 operator_f64!(Div, div, &Multivector, |value, f| Ok(value.div_f64(f)));
 operator_f64!(Div, div, Multivector, |value, f| Ok(value.div_f64(f)));
-operator_f64!(Add, add, &Multivector, |value, f| value
-    .met_number(f, lent::add));
-operator_f64!(Add, add, Multivector, |value, f| value
-    .met_number(f, lent::add));
-operator_f64!(Sub, sub, &Multivector, |value, f| value
-    .met_number(f, lent::sub));
-operator_f64!(Sub, sub, Multivector, |value, f| value
-    .met_number(f, lent::sub));
+operator_f64!(Add, add, &Multivector, |value, f| value.met_number(f, lent::add));
+operator_f64!(Add, add, Multivector, |value, f| value.met_number(f, lent::add));
+operator_f64!(Sub, sub, &Multivector, |value, f| value.met_number(f, lent::sub));
+operator_f64!(Sub, sub, Multivector, |value, f| value.met_number(f, lent::sub));
 
 /// Every sign turned, those of zeros too. No value is refused by it, so the result is plain.
 impl Neg for &Multivector {

@@ -5,10 +5,7 @@ use std::fmt;
 
 /// A digit below the line.
 fn subscript(digit: u8) -> char {
-    ['₀', '₁', '₂', '₃', '₄', '₅', '₆', '₇', '₈', '₉']
-        .get(usize::from(digit))
-        .copied()
-        .unwrap_or('?')
+    ['₀', '₁', '₂', '₃', '₄', '₅', '₆', '₇', '₈', '₉'].get(usize::from(digit)).copied().unwrap_or('?')
 }
 
 /// Writes the basis vectors of a blade, numbered from `first`: in rising order, but e31 for mask 101.

@@ -36,14 +36,8 @@ pub struct Sheet {
 impl Sheet {
     /// A sheet of shapes and patterns. Refused with [`Error::TooManyDims`], and with [`Error::WrongCount`] for more than 64 shapes, more than 4,096
     /// patterns, or unless there is a pattern for each number of the shapes.
-    pub fn new(
-        shapes: impl Into<Vec<Shape>>,
-        patterns: impl Into<Vec<u64>>,
-    ) -> Result<Sheet, Error> {
-        let sheet = Sheet {
-            shapes: shapes.into(),
-            patterns: patterns.into(),
-        };
+    pub fn new(shapes: impl Into<Vec<Shape>>, patterns: impl Into<Vec<u64>>) -> Result<Sheet, Error> {
+        let sheet = Sheet { shapes: shapes.into(), patterns: patterns.into() };
         sheet.to_bytes()?;
         Ok(sheet)
     }
@@ -66,15 +60,8 @@ impl Sheet {
         let mut patterns = vec![0; MAX_PATTERNS.min(bytes.len() / 8)];
         let (shapes, count) = lent::read(bytes, &mut patterns)?;
         patterns.truncate(count);
-        let (fives, _) = bytes
-            .get(2..)
-            .unwrap_or_default()
-            .as_chunks::<SHAPE_BYTES>();
-        let shapes = fives
-            .iter()
-            .take(shapes)
-            .map(|&five| Shape::from_bytes(five))
-            .collect();
+        let (fives, _) = bytes.get(2..).unwrap_or_default().as_chunks::<SHAPE_BYTES>();
+        let shapes = fives.iter().take(shapes).map(|&five| Shape::from_bytes(five)).collect();
         Ok(Sheet { shapes, patterns })
     }
 
@@ -134,9 +121,6 @@ impl Sheet {
 
     /// The shapes as the calls take them, five bytes each.
     fn shape_bytes(&self) -> Vec<u8> {
-        self.shapes
-            .iter()
-            .flat_map(|shape| shape.to_bytes())
-            .collect()
+        self.shapes.iter().flat_map(|shape| shape.to_bytes()).collect()
     }
 }

@@ -15,23 +15,17 @@ impl Multivector {
     /// # Ok::<(), thresholm::Error>(())
     /// ```
     pub fn unpack_all(&self, d: u8) -> Result<Vec<f64>, Error> {
-        taken(d, |out| {
-            lent::unpack_all(self.shape(), d, self.numbers(), out)
-        })
+        taken(d, |out| lent::unpack_all(self.shape(), d, self.numbers(), out))
     }
 
     /// The numbers of the even grades, by mask, at `d` dimensions. Refused with [`Error::TooManyDims`].
     pub fn unpack_even(&self, d: u8) -> Result<Vec<f64>, Error> {
-        taken(d, |out| {
-            lent::unpack_even(self.shape(), d, self.numbers(), out)
-        })
+        taken(d, |out| lent::unpack_even(self.shape(), d, self.numbers(), out))
     }
 
     /// The numbers of the odd grades, by mask, at `d` dimensions. Refused with [`Error::TooManyDims`].
     pub fn unpack_odd(&self, d: u8) -> Result<Vec<f64>, Error> {
-        taken(d, |out| {
-            lent::unpack_odd(self.shape(), d, self.numbers(), out)
-        })
+        taken(d, |out| lent::unpack_odd(self.shape(), d, self.numbers(), out))
     }
 
     /// The numbers of the even grades at the value's own dimensions.
@@ -60,19 +54,13 @@ impl Multivector {
     }
 
     /// What a call gives at the value's own dimensions, which no value can be refused by.
-    fn own(
-        &self,
-        call: impl FnOnce(crate::Shape, &[f64], &mut [f64]) -> Result<usize, Error>,
-    ) -> Vec<f64> {
+    fn own(&self, call: impl FnOnce(crate::Shape, &[f64], &mut [f64]) -> Result<usize, Error>) -> Vec<f64> {
         taken(self.dims(), |out| call(self.shape(), self.numbers(), out)).unwrap_or_default()
     }
 }
 
 /// The numbers that a call gives, at most those of `dims` dimensions.
-fn taken(
-    dims: u8,
-    call: impl FnOnce(&mut [f64]) -> Result<usize, Error>,
-) -> Result<Vec<f64>, Error> {
+fn taken(dims: u8, call: impl FnOnce(&mut [f64]) -> Result<usize, Error>) -> Result<Vec<f64>, Error> {
     let mut numbers = vec![0.0; room(dims)];
     let count = call(&mut numbers)?;
     numbers.truncate(count);

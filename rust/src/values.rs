@@ -52,9 +52,7 @@ impl Multivector {
 
     /// The inverse; where there is none, NaN at place 0 and zeros. Refused with [`Error::Planar`].
     pub fn inverted(&self) -> Result<Multivector, Error> {
-        made(self.dims(), |out| {
-            lent::inverted(self.shape(), self.numbers(), out)
-        })
+        made(self.dims(), |out| lent::inverted(self.shape(), self.numbers(), out))
     }
 
     /// A whole power. Under Projective every power but 1, 2, -1 and -2 has one dimension more. Refused with [`Error::TooManyDims`],
@@ -68,9 +66,7 @@ impl Multivector {
     /// ```
     pub fn powi(&self, exponent: i32) -> Result<Multivector, Error> {
         let dims = self.dims().saturating_add(self.flavor().added_dims());
-        made(dims, |out| {
-            lent::powi(self.shape(), exponent, self.numbers(), out)
-        })
+        made(dims, |out| lent::powi(self.shape(), exponent, self.numbers(), out))
     }
 
     /// The squared magnitude.

@@ -20,14 +20,8 @@ fn dimensions_above_nine() {
     assert_eq!(zero.set_blade(usize::MAX, 1.0).map(drop), refused);
     assert_eq!(zero.conform_to(ten).map(drop), refused);
     assert_eq!(zero.unpack_all(10).map(drop), refused);
-    assert_eq!(
-        Multivector::scalar(9, 1.0, Flavor::Projective).map(drop),
-        refused
-    );
-    assert_eq!(
-        Multivector::pseudoscalar(255, 1.0, Flavor::Vanilla).map(drop),
-        refused
-    );
+    assert_eq!(Multivector::scalar(9, 1.0, Flavor::Projective).map(drop), refused);
+    assert_eq!(Multivector::pseudoscalar(255, 1.0, Flavor::Vanilla).map(drop), refused);
     assert_eq!(ten.grade_size(1).map(drop), refused);
     let nine = zero.set_dims(9).unwrap();
     assert_eq!(nine.set_flavor(Flavor::Projective).map(drop), refused);
@@ -41,18 +35,9 @@ fn wrong_counts() {
     for count in [0, 1, 3, 5, 8] {
         assert_eq!(Multivector::new(PLANE, vec![0.0; count]).map(drop), refused);
     }
-    assert_eq!(
-        Multivector::n_1_blades(&[1.0], Flavor::Vanilla).map(drop),
-        refused
-    );
-    assert_eq!(
-        Multivector::blades_left(2, &[], Flavor::Vanilla).map(drop),
-        refused
-    );
-    assert_eq!(
-        Multivector::blades_right(2, &[1.0; 3], Flavor::Vanilla).map(drop),
-        refused
-    );
+    assert_eq!(Multivector::n_1_blades(&[1.0], Flavor::Vanilla).map(drop), refused);
+    assert_eq!(Multivector::blades_left(2, &[], Flavor::Vanilla).map(drop), refused);
+    assert_eq!(Multivector::blades_right(2, &[1.0; 3], Flavor::Vanilla).map(drop), refused);
     assert_eq!(Sheet::new([PLANE], [0; 3]).map(drop), refused);
     let sheet = Sheet::new([PLANE], [0; 4]).unwrap();
     assert_eq!(sheet.value(1).map(drop), refused);
@@ -63,30 +48,15 @@ fn wrong_counts() {
 #[test]
 fn no_room() {
     let mut short = [7.0; 3];
-    assert_eq!(
-        lent::reverse(PLANE, &[1.0; 4], &mut short),
-        Err(Error::NoRoom)
-    );
-    assert_eq!(
-        lent::unpack_all(PLANE, 2, &[1.0; 4], &mut short),
-        Err(Error::NoRoom)
-    );
-    assert_eq!(
-        lent::vector(&[1.0, 2.0], Flavor::Vanilla, &mut short),
-        Err(Error::NoRoom)
-    );
+    assert_eq!(lent::reverse(PLANE, &[1.0; 4], &mut short), Err(Error::NoRoom));
+    assert_eq!(lent::unpack_all(PLANE, 2, &[1.0; 4], &mut short), Err(Error::NoRoom));
+    assert_eq!(lent::vector(&[1.0, 2.0], Flavor::Vanilla, &mut short), Err(Error::NoRoom));
     assert_eq!(short, [7.0; 3]);
     let mut text = [7; 2];
-    assert_eq!(
-        lent::write_to(Flavor::Vanilla, &mut text),
-        Err(Error::NoRoom)
-    );
+    assert_eq!(lent::write_to(Flavor::Vanilla, &mut text), Err(Error::NoRoom));
     assert_eq!(text, [7; 2]);
     let (mut masks, mut places) = ([7; 4], [7; 3]);
-    assert_eq!(
-        lent::order_of(2, &mut masks, &mut places),
-        Err(Error::NoRoom)
-    );
+    assert_eq!(lent::order_of(2, &mut masks, &mut places), Err(Error::NoRoom));
     assert_eq!((masks, places), ([7; 4], [7; 3]));
 }
 
@@ -108,11 +78,7 @@ fn the_other_numbers() {
         assert_eq!(text.parse::<Flavor>(), Err(Error::NoSpec), "{text}");
     }
     for bytes in [&[][..], &[0], &[0; 5], &[0; 7], &[1, 0, 0, 0, 0, 0]] {
-        assert_eq!(
-            Sheet::from_bytes(bytes),
-            Err(Error::Malformed),
-            "{bytes:02x?}"
-        );
+        assert_eq!(Sheet::from_bytes(bytes), Err(Error::Malformed), "{bytes:02x?}");
     }
 }
 
@@ -123,19 +89,10 @@ fn a_refused_call_leaves_its_outputs_alone() {
     let (a, b) = (vec![1.0; 512], [2.0]);
     let (mut out, mut right) = (vec![7.0; 512], vec![8.0; 512]);
     let refused = Error::TooManyDims;
-    assert_eq!(
-        lent::general_product(nine, point, &a, &b, &mut out),
-        Err(refused)
-    );
+    assert_eq!(lent::general_product(nine, point, &a, &b, &mut out), Err(refused));
     assert_eq!(lent::mul(nine, point, &a, &b, &mut out), Err(refused));
-    assert_eq!(
-        lent::conform(nine, point, &a, &b, &mut out, &mut right),
-        Err(refused)
-    );
-    assert_eq!(
-        lent::take_scalar(PLANE, &a, &mut out),
-        Err(Error::WrongCount)
-    );
+    assert_eq!(lent::conform(nine, point, &a, &b, &mut out, &mut right), Err(refused));
+    assert_eq!(lent::take_scalar(PLANE, &a, &mut out), Err(Error::WrongCount));
     assert!(out.iter().all(|&x| x == 7.0) && right.iter().all(|&x| x == 8.0));
     let mut patterns = [9; 4];
     assert_eq!(lent::read(&[1, 2, 3], &mut patterns), Err(Error::Malformed));

@@ -32,11 +32,7 @@ impl Draw {
 
     /// Often few dimensions, at times up to 9; often a scalar or a planar value.
     fn value(&mut self) -> Multivector {
-        let dims = if self.below(8) == 0 {
-            7 + self.small(3)
-        } else {
-            self.small(5)
-        };
+        let dims = if self.below(8) == 0 { 7 + self.small(3) } else { self.small(5) };
         let shape = Shape::new(dims, self.flavor());
         let kind = self.below(4);
         let numbers: Vec<f64> = (0..shape.blade_count())
@@ -55,10 +51,7 @@ impl Draw {
 fn same(value: Result<Multivector, Error>, call: impl FnOnce(&mut [f64]) -> Result<Shape, Error>) {
     let mut out = [77.0; MAX_BLADES];
     let lent = call(&mut out);
-    assert_eq!(
-        value.as_ref().map(Multivector::shape),
-        lent.as_ref().copied()
-    );
+    assert_eq!(value.as_ref().map(Multivector::shape), lent.as_ref().copied());
     let Ok(value) = value else {
         assert_ne!(lent, Err(Error::NoRoom));
         return assert_eq!(out, [77.0; MAX_BLADES]);
@@ -80,18 +73,14 @@ fn two_values() {
         same(&a + &b, |out| lent::add(s, t, x, y, out));
         same(&a - &b, |out| lent::sub(s, t, x, y, out));
         same(&a / &b, |out| lent::div(s, t, x, y, out));
-        same(a.regressive_product(&b), |out| {
-            lent::regressive_product(s, t, x, y, out)
-        });
+        same(a.regressive_product(&b), |out| lent::regressive_product(s, t, x, y, out));
         same(a.conform_to(t), |out| lent::conform_to(s, t, x, out));
         let both = a.conform(&b);
         let mut beside = [0.0; MAX_BLADES];
         same(both.clone().map(|(left, _)| left), |out| {
             lent::conform(s, t, x, y, out, &mut beside).map(|(left, _)| left)
         });
-        same(both.map(|(_, right)| right), |out| {
-            lent::conform(s, t, x, y, &mut beside, out).map(|(_, right)| right)
-        });
+        same(both.map(|(_, right)| right), |out| lent::conform(s, t, x, y, &mut beside, out).map(|(_, right)| right));
     }
 }
 
@@ -126,26 +115,18 @@ fn one_value() {
         same(Ok(a.inv_reverse()), |out| lent::inv_reverse(s, x, out));
         same(Ok(a.dual()), |out| lent::dual(s, x, out));
         same(Ok(a.antidual()), |out| lent::antidual(s, x, out));
-        same(Ok(a.make_scalar_only()), |out| {
-            lent::make_scalar_only(s, x, out)
-        });
+        same(Ok(a.make_scalar_only()), |out| lent::make_scalar_only(s, x, out));
         same(a.inverted(), |out| lent::inverted(s, x, out));
         let f = draw.number();
         same(Ok(a.mul_f64(f)), |out| lent::mul_f64(s, f, x, out));
         same(Ok(a.div_f64(f)), |out| lent::div_f64(s, f, x, out));
-        same(Ok(a.take_scalar().0), |out| {
-            lent::take_scalar(s, x, out).map(|(shape, _)| shape)
-        });
+        same(Ok(a.take_scalar().0), |out| lent::take_scalar(s, x, out).map(|(shape, _)| shape));
         let (d, flavor) = (draw.small(11), draw.flavor());
         same(a.set_dims(d), |out| lent::set_dims(s, d, x, out));
-        same(a.set_flavor(flavor), |out| {
-            lent::set_flavor(s, flavor, x, out)
-        });
+        same(a.set_flavor(flavor), |out| lent::set_flavor(s, flavor, x, out));
         let bits = draw.small(11);
         let mask = usize::try_from(draw.below(1 << bits)).unwrap();
-        same(a.set_blade(mask, f), |out| {
-            lent::set_blade(s, mask, f, x, out)
-        });
+        same(a.set_blade(mask, f), |out| lent::set_blade(s, mask, f, x, out));
     }
 }
 
@@ -156,9 +137,7 @@ fn powers() {
     for _ in 0..100 {
         let a = draw.value();
         for exponent in exponents {
-            same(a.powi(exponent), |out| {
-                lent::powi(a.shape(), exponent, a.numbers(), out)
-            });
+            same(a.powi(exponent), |out| lent::powi(a.shape(), exponent, a.numbers(), out));
         }
     }
 }
@@ -170,24 +149,12 @@ fn few_numbers() {
         for count in (0..40).chain([126, 128, 256, 257, 512]) {
             let v = vec![1.5; count];
             let flavor = draw.flavor();
-            same(Multivector::vector(&v, flavor), |out| {
-                lent::vector(&v, flavor, out)
-            });
-            same(Multivector::n_1_blades(&v, flavor), |out| {
-                lent::n_1_blades(&v, flavor, out)
-            });
-            same(Multivector::blades_left(dims, &v, flavor), |out| {
-                lent::blades_left(dims, &v, flavor, out)
-            });
-            same(Multivector::blades_right(dims, &v, flavor), |out| {
-                lent::blades_right(dims, &v, flavor, out)
-            });
-            same(Multivector::scalar(dims, 2.5, flavor), |out| {
-                lent::scalar(dims, 2.5, flavor, out)
-            });
-            same(Multivector::pseudoscalar(dims, 2.5, flavor), |out| {
-                lent::pseudoscalar(dims, 2.5, flavor, out)
-            });
+            same(Multivector::vector(&v, flavor), |out| lent::vector(&v, flavor, out));
+            same(Multivector::n_1_blades(&v, flavor), |out| lent::n_1_blades(&v, flavor, out));
+            same(Multivector::blades_left(dims, &v, flavor), |out| lent::blades_left(dims, &v, flavor, out));
+            same(Multivector::blades_right(dims, &v, flavor), |out| lent::blades_right(dims, &v, flavor, out));
+            same(Multivector::scalar(dims, 2.5, flavor), |out| lent::scalar(dims, 2.5, flavor, out));
+            same(Multivector::pseudoscalar(dims, 2.5, flavor), |out| lent::pseudoscalar(dims, 2.5, flavor, out));
         }
     }
 }
@@ -209,10 +176,7 @@ fn some_numbers() {
             }
         }
         let half = a.numbers().len().div_ceil(2);
-        assert_eq!(
-            (a.unpack_own_even().len(), a.unpack_own_odd().len()),
-            (half, half)
-        );
+        assert_eq!((a.unpack_own_even().len(), a.unpack_own_odd().len()), (half, half));
         assert_eq!(a.unpack_vector().len(), usize::from(a.dims()));
     }
 }

@@ -13,11 +13,8 @@ const PATTERNS: [u64; 7] = [
 ];
 
 fn sheet() -> Sheet {
-    let shapes = [
-        Shape::new(0, Flavor::Projective),
-        Shape::new(1, Flavor::Cl(3, 1, 255)),
-        Shape::new(2, Flavor::Vanilla),
-    ];
+    let shapes =
+        [Shape::new(0, Flavor::Projective), Shape::new(1, Flavor::Cl(3, 1, 255)), Shape::new(2, Flavor::Vanilla)];
     Sheet::new(shapes, PATTERNS).unwrap()
 }
 
@@ -35,21 +32,12 @@ fn values_of_a_sheet() {
     let sheet = sheet();
     assert_eq!((sheet.len(), sheet.is_empty()), (3, false));
     let (shape, patterns) = sheet.value_patterns(1).unwrap();
-    assert_eq!(
-        (shape, patterns),
-        (Shape::new(1, Flavor::Cl(3, 1, 255)), &PATTERNS[1..3])
-    );
+    assert_eq!((shape, patterns), (Shape::new(1, Flavor::Cl(3, 1, 255)), &PATTERNS[1..3]));
     let values = sheet.values().unwrap();
-    assert_eq!(
-        values.iter().map(Multivector::shape).collect::<Vec<_>>(),
-        sheet.shapes()
-    );
+    assert_eq!(values.iter().map(Multivector::shape).collect::<Vec<_>>(), sheet.shapes());
     assert!(values[0].numbers()[0].is_nan());
     assert!(values[1].numbers().iter().all(|number| number.is_nan()));
-    let bits: Vec<u64> = values[2].numbers()[1..]
-        .iter()
-        .map(|x| x.to_bits())
-        .collect();
+    let bits: Vec<u64> = values[2].numbers()[1..].iter().map(|x| x.to_bits()).collect();
     assert_eq!(bits, PATTERNS[4..]);
     assert!(values[2].numbers()[0].is_nan());
 }
@@ -59,10 +47,7 @@ fn a_nan_of_a_value_has_one_pattern() {
     let shape = Shape::new(1, Flavor::Vanilla);
     let value = Multivector::new(shape, [-f64::NAN, -0.0]).unwrap();
     let sheet = Sheet::from_values(&[value]).unwrap();
-    assert_eq!(
-        sheet.patterns(),
-        [0x7FF8_0000_0000_0000, 0x8000_0000_0000_0000]
-    );
+    assert_eq!(sheet.patterns(), [0x7FF8_0000_0000_0000, 0x8000_0000_0000_0000]);
 }
 
 #[test]
@@ -91,11 +76,7 @@ fn the_empty_sheet() {
 fn every_shortened_or_lengthened_sheet_is_malformed() {
     let bytes = sheet().to_bytes().unwrap();
     for end in 0..bytes.len() {
-        assert_eq!(
-            Sheet::from_bytes(&bytes[..end]),
-            Err(Error::Malformed),
-            "{end}"
-        );
+        assert_eq!(Sheet::from_bytes(&bytes[..end]), Err(Error::Malformed), "{end}");
     }
     let longer: Vec<u8> = bytes.iter().copied().chain([0]).collect();
     assert_eq!(Sheet::from_bytes(&longer), Err(Error::Malformed));

@@ -22,26 +22,15 @@ fn unit(dims: u8, flavor: Flavor) -> Multivector {
 #[track_caller]
 fn gives(value: &Multivector, numbers: &[f64]) {
     let same = |a: f64, b: f64| a.to_bits() == b.to_bits() || a.is_nan() && b.is_nan();
-    let all = value
-        .numbers()
-        .iter()
-        .zip(numbers)
-        .all(|(&a, &b)| same(a, b));
-    assert!(
-        all && value.numbers().len() == numbers.len(),
-        "{:?} is not {numbers:?}",
-        value.numbers()
-    );
+    let all = value.numbers().iter().zip(numbers).all(|(&a, &b)| same(a, b));
+    assert!(all && value.numbers().len() == numbers.len(), "{:?} is not {numbers:?}", value.numbers());
 }
 
 #[test]
 fn orders() {
     let masks = |dims| Shape::new(dims, Flavor::Vanilla).order().masks().to_vec();
     assert_eq!(masks(3), [0, 1, 2, 4, 3, 5, 6, 7]);
-    assert_eq!(
-        masks(4),
-        [0, 1, 2, 4, 8, 3, 5, 9, 6, 10, 12, 7, 11, 13, 14, 15]
-    );
+    assert_eq!(masks(4), [0, 1, 2, 4, 8, 3, 5, 9, 6, 10, 12, 7, 11, 13, 14, 15]);
 }
 
 #[test]
@@ -51,10 +40,7 @@ fn products() {
     gives(&(&e2 * &e1).unwrap(), &[0.0, 0.0, 0.0, -1.0]);
     let e1 = vanilla([0.0, 1.0, 0.0, 0.0, 0.0, 0.0, 0.0, 0.0]);
     let e3 = vanilla([0.0, 0.0, 0.0, 1.0, 0.0, 0.0, 0.0, 0.0]);
-    gives(
-        &e1.general_product(&e3).unwrap().value,
-        &[0.0, 0.0, 0.0, 0.0, 0.0, -1.0, 0.0, 0.0],
-    );
+    gives(&e1.general_product(&e3).unwrap().value, &[0.0, 0.0, 0.0, 0.0, 0.0, -1.0, 0.0, 0.0]);
     let shape = Shape::new(2, Flavor::Cl(0, 1, 1));
     let v = Multivector::new(shape, [0.0, 0.0, 1.0, 0.0]).unwrap();
     gives(&v.powi(2).unwrap(), &[-1.0, 0.0, 0.0, 0.0]);
@@ -65,10 +51,7 @@ fn the_snap() {
     let one = vanilla([1.0]);
     let (small, larger) = (2f64.powi(-47), 2f64.powi(-46));
     for (number, product) in [(small, 0.0), (-small, -0.0), (larger, larger)] {
-        gives(
-            &vanilla([number]).general_product(&one).unwrap().value,
-            &[product],
-        );
+        gives(&vanilla([number]).general_product(&one).unwrap().value, &[product]);
         // `*` by a scalar does not snap.
         gives(&(vanilla([number]) * &one).unwrap(), &[number]);
     }
@@ -94,11 +77,7 @@ fn equality_and_order() {
     assert_eq!(e1.rust_cmp(&e2), Ordering::Greater);
     assert!(!vanilla([5.0]).rust_eq(&vanilla([3.0])));
     // The order is not transitive.
-    let ring = [
-        vanilla([5.0]),
-        Multivector::vector(&[1.0], Flavor::Vanilla).unwrap(),
-        vanilla([3.0, 0.0, 0.0, 0.0]),
-    ];
+    let ring = [vanilla([5.0]), Multivector::vector(&[1.0], Flavor::Vanilla).unwrap(), vanilla([3.0, 0.0, 0.0, 0.0])];
     for i in 0..3 {
         assert_eq!(ring[i].rust_cmp(&ring[(i + 1) % 3]), Ordering::Less);
     }
@@ -109,10 +88,7 @@ fn inverses_and_powers() {
     let inverse = vanilla([3.0, 1.0, 0.0, 0.0]).inverted().unwrap();
     gives(&inverse, &[0.375, -0.125, -0.0, -0.0]);
     let none = vanilla([0.0, 1.0, 0.0, 1.0]).inverted().unwrap();
-    gives(
-        &none,
-        &[f64::NAN, f64::NEG_INFINITY, f64::NAN, f64::NEG_INFINITY],
-    );
+    gives(&none, &[f64::NAN, f64::NEG_INFINITY, f64::NAN, f64::NEG_INFINITY]);
     let power = projective([2.0, 3.0, 4.0, 5.0]).powi(0).unwrap();
     assert_eq!(power.shape(), Shape::new(3, Flavor::Projective));
     gives(&power, &[1.0, 0.0, 0.0, 0.0, 0.0, 0.0, 0.0, 0.0]);
@@ -153,8 +129,8 @@ fn flavor_text() {
 fn the_sheet_of_one() {
     let sheet = Sheet::from_values(&[vanilla([1.0])]).unwrap();
     let bytes = [
-        0x01, 0x00, 0x00, 0x00, 0x00, 0x00, 0x00, 0x01, 0x00, 0x00, 0x00, 0x00, 0x00, 0x00, 0x00,
-        0x00, 0x00, 0xF0, 0x3F,
+        0x01, 0x00, 0x00, 0x00, 0x00, 0x00, 0x00, 0x01, 0x00, 0x00, 0x00, 0x00, 0x00, 0x00, 0x00, 0x00, 0x00, 0xF0,
+        0x3F,
     ];
     assert_eq!(sheet.to_bytes().unwrap(), bytes);
     assert_eq!(Sheet::from_bytes(&bytes), Ok(sheet));

@@ -30,8 +30,7 @@ pub fn set_blade(shape: Shape, mask: usize, x: f64, a: &[f64], out: &mut [f64]) 
 pub fn grade_refusal(shape: Shape, grade: u8, a: &[f64]) -> Result<(), Error> {
     let [dims, kind, p, n, z] = shape.to_bytes();
     // SAFETY: the slice is borrowed for the call; see the module.
-    let number =
-        unsafe { sys::thresholm_grade_refusal(dims, kind, p, n, z, grade, a.as_ptr(), a.len()) };
+    let number = unsafe { sys::thresholm_grade_refusal(dims, kind, p, n, z, grade, a.as_ptr(), a.len()) };
     Error::told(number, ())
 }
 

@@ -52,7 +52,5 @@ pub fn try_from_str(text: &[u8]) -> Result<Flavor, Error> {
 pub fn write_to(flavor: Flavor, out: &mut [u8]) -> Result<usize, Error> {
     let [kind, p, n, z] = flavor.to_bytes();
     // SAFETY: every pointer is of something that is borrowed for the call; see the module.
-    tell_count(|to_count| unsafe {
-        sys::thresholm_write_to(kind, p, n, z, out.as_mut_ptr(), out.len(), to_count)
-    })
+    tell_count(|to_count| unsafe { sys::thresholm_write_to(kind, p, n, z, out.as_mut_ptr(), out.len(), to_count) })
 }

@@ -27,9 +27,7 @@ pub fn with_dims(shape: Shape, new_dims: u8) -> Shape {
     let [dims, kind, p, n, z] = shape.to_bytes();
     // SAFETY: every pointer is of a number that is borrowed for the call; see the module.
     tell_always(|[to_dims, to_kind, to_p, to_n, to_z]| unsafe {
-        sys::thresholm_with_dims(
-            dims, kind, p, n, z, new_dims, to_dims, to_kind, to_p, to_n, to_z,
-        );
+        sys::thresholm_with_dims(dims, kind, p, n, z, new_dims, to_dims, to_kind, to_p, to_n, to_z);
     })
 }
 

@@ -1,4 +1,4 @@
-//! `thresholm check`: valid, or the first wrong byte.
+//! `thresholm check`: valid, or what is the first that is wrong.
 use crate::support::{file, folder, run, sheet};
 use thresholm::{Flavor, Shape};
 
@@ -12,16 +12,20 @@ fn a_good_sheet_is_valid() {
     assert_eq!(run(&["check", &rig]).done(), format!("{rig}: valid: 0 values, 0 coefficients\n"));
 }
 
+/// A byte of a sheet of two values, what it is changed to, and what is said of that.
+const WRONG: [(usize, u8, &str); 5] = [
+    (0, 65, "the number that starts at byte 0: the count of values is 65; a sheet has at most 64"),
+    (8, 3, "byte 8: the kind of value 1 is 3; it must be 0, 1 or 2"),
+    (11, 1, "byte 11: z of value 1 is 1; it must be 0, since the kind is not 2"),
+    (12, 4, "the number that starts at byte 12: the count of coefficients is 4; the values have 3"),
+    (15, 1, "the number that starts at byte 12: the count of coefficients is 16777219; a sheet has at most 4096"),
+];
+
 #[test]
-fn the_wrong_byte_is_told_by_every_subcommand() {
+fn what_is_wrong_is_told_by_every_subcommand() {
     let folder = folder("wrong");
     let good = sheet(&[Shape::default(), Shape::new(1, Flavor::Vanilla)], &[1, 2, 3]);
-    for (at, byte, says) in [
-        (0, 65, "byte 0: the count of values is 65; a sheet has at most 64"),
-        (8, 3, "byte 8: the kind of value 1 is 3; it must be 0, 1 or 2"),
-        (11, 1, "byte 11: z of value 1 is 1; it must be 0, since the kind is not 2"),
-        (12, 4, "byte 12: the count of coefficients is 4; the values have 3"),
-    ] {
+    for (at, byte, says) in WRONG {
         let mut bytes = good.clone();
         bytes[at] = byte;
         let rig = file(&folder, "wrong.rig", &bytes);
@@ -30,13 +34,22 @@ fn the_wrong_byte_is_told_by_every_subcommand() {
         }
     }
     let rig = file(&folder, "short.rig", &good[..30]);
-    assert_eq!(run(&["check", &rig]).refused(), format!("{rig}: byte 30: the file ends here, in coefficient 1 of 3; the sheet has 40 bytes\n"));
+    assert_eq!(
+        run(&["check", &rig]).refused(),
+        format!("{rig}: byte 30: the file ends here, in coefficient 1 of 3; the sheet has 40 bytes\n")
+    );
     let rig = file(&folder, "long.rig", &[&good[..], b"\n"].concat());
-    assert_eq!(run(&["check", &rig]).refused(), format!("{rig}: byte 40: the sheet has 40 bytes; nothing may follow it\n"));
+    assert_eq!(
+        run(&["check", &rig]).refused(),
+        format!("{rig}: byte 40: the sheet has 40 bytes; nothing may follow it\n")
+    );
 }
 
 #[cfg(unix)]
 #[test]
 fn an_endless_file_is_refused() {
-    assert_eq!(run(&["check", "/dev/zero"]).refused(), "/dev/zero: byte 6: the sheet has 6 bytes; nothing may follow it\n");
+    assert_eq!(
+        run(&["check", "/dev/zero"]).refused(),
+        "/dev/zero: byte 6: the sheet has 6 bytes; nothing may follow it\n"
+    );
 }

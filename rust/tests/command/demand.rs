@@ -1,5 +1,5 @@
 //! What `thresholm product` prints beside each coefficient, held against demand 3 as `exact` works it out.
-use crate::exact::{Int, UNIT, Sum, fineness, masks, sums};
+use crate::exact::{Int, Sum, UNIT, fineness, masks, sums};
 use crate::support::{Rng, file, folder, run, sheet};
 use std::collections::HashMap;
 use std::path::Path;
@@ -19,16 +19,22 @@ fn printed(out: &str) -> Vec<Printed> {
         if line.starts_with("step ") {
             steps.push(Printed { named: HashMap::new(), others: None, pairs: String::new() });
         }
-        let Some(step) = steps.last_mut() else { continue };
+        let Some(step) = steps.last_mut() else {
+            continue;
+        };
         if let Some((pairs, _)) = line.split_once(" contributing pair") {
             step.pairs = pairs.trim().to_string();
         }
-        let Some(row) = line.strip_prefix("    ") else { continue };
+        let Some(row) = line.strip_prefix("    ") else {
+            continue;
+        };
         let verdict = ["exact", "within ", "no bound"].iter().find_map(|word| row.rfind(word)).expect("a verdict");
         let (front, verdict) = row.split_at(verdict);
         let (name, number) = front.trim().rsplit_once(' ').expect("a name and a number");
         match name.trim() {
-            shared if shared.starts_with("the other ") || shared.starts_with("all ") => step.others = Some(verdict.to_string()),
+            shared if shared.starts_with("the other ") || shared.starts_with("all ") => {
+                step.others = Some(verdict.to_string())
+            }
             name => assert!(step.named.insert(name.to_string(), (number.to_string(), verdict.to_string())).is_none()),
         }
     }
@@ -164,7 +170,18 @@ fn list(r: &mut Rng, shape: Shape, kind: Kind) -> (Shape, Vec<f64>) {
 fn of_two_factors_of_one_shape() {
     let folder = folder("one-shape");
     let (mut r, mut tally) = (Rng(3), Tally::default());
-    let kinds = [Kind::Grid(0, 20), Kind::Grid(23, 24), Kind::Grid(23, 30), Kind::Grid(20, 26), Kind::Grid(24, 24), Kind::Sized(1), Kind::Sized(60), Kind::Sized(400), Kind::Sized(401), Kind::Bits];
+    let kinds = [
+        Kind::Grid(0, 20),
+        Kind::Grid(23, 24),
+        Kind::Grid(23, 30),
+        Kind::Grid(20, 26),
+        Kind::Grid(24, 24),
+        Kind::Sized(1),
+        Kind::Sized(60),
+        Kind::Sized(400),
+        Kind::Sized(401),
+        Kind::Bits,
+    ];
     for dims in (0..6).cycle().take(300) {
         let shape = Shape::new(dims, r.flavor());
         let kind = r.pick(&kinds);
@@ -172,7 +189,13 @@ fn of_two_factors_of_one_shape() {
         let values = [list(&mut r, shape, kind), list(&mut r, shape, other)];
         tally.multiply(&folder, &values);
     }
-    assert!(tally.exact > 300 && tally.within > 500 && tally.open > 200, "{} {} {}", tally.exact, tally.within, tally.open);
+    assert!(
+        tally.exact > 300 && tally.within > 500 && tally.open > 200,
+        "{} {} {}",
+        tally.exact,
+        tally.within,
+        tally.open
+    );
 }
 
 #[test]
@@ -182,10 +205,12 @@ fn of_factors_that_are_brought_together_and_of_three_steps() {
     for _ in 0..80 {
         let kind = r.pick(&[Kind::Grid(5, 8), Kind::Grid(11, 12), Kind::Sized(2), Kind::Sized(100)]);
         let count = 2 + r.below(3);
-        let values: Vec<_> = (0..count).map(|_| {
-            let shape = Shape::new(r.below(5) as u8, r.flavor());
-            list(&mut r, shape, kind)
-        }).collect();
+        let values: Vec<_> = (0..count)
+            .map(|_| {
+                let shape = Shape::new(r.below(5) as u8, r.flavor());
+                list(&mut r, shape, kind)
+            })
+            .collect();
         tally.multiply(&folder, &values);
     }
     assert!(tally.exact > 500 && tally.within > 500, "{} {}", tally.exact, tally.within);

@@ -38,7 +38,11 @@ impl Int {
 
     pub fn compare_sizes(&self, other: &Int) -> Ordering {
         let count = self.words.len().max(other.words.len());
-        (0..count).rev().map(|place| self.word(place).cmp(&other.word(place))).find(|order| order.is_ne()).unwrap_or(Ordering::Equal)
+        (0..count)
+            .rev()
+            .map(|place| self.word(place).cmp(&other.word(place)))
+            .find(|order| order.is_ne())
+            .unwrap_or(Ordering::Equal)
     }
 
     pub fn is_zero(&self) -> bool {
@@ -86,7 +90,13 @@ fn square(flavor: Flavor, i: u8) -> i32 {
     match flavor {
         Flavor::Vanilla => 1,
         Flavor::Projective => i32::from(i > 0),
-        Flavor::Cl(_, n, z) if i >= z => if i - z < n { -1 } else { 1 },
+        Flavor::Cl(_, n, z) if i >= z => {
+            if i - z < n {
+                -1
+            } else {
+                1
+            }
+        }
         Flavor::Cl(..) => 0,
     }
 }

@@ -1,11 +1,17 @@
-//! The example of examples/: imported and multiplied as its README says.
-use crate::support::{folder, run};
+//! The examples: the room, imported and multiplied as both READMEs say, and the README's Rust.
+use crate::support::{folder, run, told};
 use std::fs;
-use std::path::PathBuf;
+use std::path::{Path, PathBuf};
+use std::process::Command;
 use thresholm::Sheet;
 
 fn example(name: &str) -> PathBuf {
-    PathBuf::from(env!("CARGO_MANIFEST_DIR")).join("../examples").join(name)
+    repository("examples").join(name)
+}
+
+/// A path in the repository.
+fn repository(name: &str) -> PathBuf {
+    PathBuf::from(env!("CARGO_MANIFEST_DIR")).join("..").join(name)
 }
 
 fn room(test: &str) -> String {
@@ -25,12 +31,32 @@ fn the_product_of_two_moves_is_the_stored_one() {
 }
 
 #[test]
-fn the_readme_has_the_same_product() {
-    let readme = fs::read_to_string(example("README.md")).expect("it is there");
+fn the_readmes_have_the_same_product() {
     let stored = fs::read_to_string(example("product.txt")).expect("it is there");
-    for line in stored.lines() {
-        assert!(readme.contains(&format!("    {line}\n")), "{line}");
+    let block: String = stored.lines().map(|line| format!("    {line}\n")).collect();
+    for (name, heading) in [("examples/README.md", "# A small room"), ("README.md", "## Two commands")] {
+        let readme = fs::read_to_string(repository(name)).expect("it is there");
+        let (_, section) = readme.split_once(&format!("{heading}\n")).expect("the heading");
+        let section = section.split("\n## ").next().unwrap_or(section);
+        assert!(section.contains(&format!("{block}\n")), "{name} has another product");
     }
+}
+
+#[test]
+fn the_readmes_rust_is_the_example() {
+    let readme = fs::read_to_string(repository("README.md")).expect("it is there");
+    let blocks: Vec<&str> = readme.split("```rust\n").skip(1).filter_map(|rest| rest.split("```").next()).collect();
+    let example = fs::read_to_string(repository("rust/examples/readme.rs")).expect("it is there");
+    assert_eq!(blocks, [example]);
+}
+
+/// `cargo test` builds the example beside the command.
+#[test]
+fn the_readmes_rust_prints_the_turn() {
+    let built = Path::new(env!("CARGO_BIN_EXE_thresholm")).with_file_name("examples");
+    let readme = built.join(format!("readme{}", std::env::consts::EXE_SUFFIX));
+    let output = Command::new(&readme).output().expect("a whole cargo test has built it");
+    assert_eq!(told(&output).done(), "e₁₂\n");
 }
 
 #[test]

@@ -1,5 +1,6 @@
 //! Random bytes, texts and arguments: the command never panics and always ends with 0, 1 or 2.
-use crate::support::{Rng, Run, file, folder, run, sheet};
+use crate::support::{Rng, Run, command, file, folder, run, sheet, told};
+use std::fs;
 use std::path::Path;
 use thresholm::Shape;
 
@@ -54,9 +55,54 @@ fn damaged_sheets() {
 
 /// Pieces that texts are made of, and some that they are not.
 const PIECES: [&str; 40] = [
-    "a", ":", ":", "\n", "\n", "\n", " ", " ", " ", "=", "=", "#", "0", "1", "2", "3", "9", "10", "VGA", "PGA", "Cl", "Cl 3 0 1", "dimensions,", "flavor", "e1", "e12", "e20",
-    "-", ".", ",", "1e999", "0x", "0x7FF8000000000001", "nan", "inf", "é", "\u{2028}", "\r", "\t", "\0",
+    "a",
+    ":",
+    ":",
+    "\n",
+    "\n",
+    "\n",
+    " ",
+    " ",
+    " ",
+    "=",
+    "=",
+    "#",
+    "0",
+    "1",
+    "2",
+    "3",
+    "9",
+    "10",
+    "VGA",
+    "PGA",
+    "Cl",
+    "Cl 3 0 1",
+    "dimensions,",
+    "flavor",
+    "e1",
+    "e12",
+    "e20",
+    "-",
+    ".",
+    ",",
+    "1e999",
+    "0x",
+    "0x7FF8000000000001",
+    "nan",
+    "inf",
+    "é",
+    "\u{2028}",
+    "\r",
+    "\t",
+    "\0",
 ];
+
+/// A message about a text starts with the file's name, the line and the column.
+fn has_place(text: &str, message: &str) {
+    let place = message.strip_prefix(&format!("{text}:")).expect("the file's name");
+    let counted = |part: &str| part.parse::<usize>().is_ok_and(|number| number > 0);
+    assert_eq!(place.split(':').take(2).filter(|part| counted(part)).count(), 2, "{message}");
+}
 
 #[test]
 fn random_texts() {
@@ -77,25 +123,48 @@ fn random_texts() {
         ends_well(&run);
         done += usize::from(run.status == 0);
         if run.status == 1 {
-            let place = run.err.strip_prefix(&format!("{text}:")).expect("the file's name");
-            let mut parts = place.split(':');
-            assert!(parts.next().is_some_and(|line| line.parse::<usize>().is_ok_and(|line| line > 0)), "{}", run.err);
-            assert!(parts.next().is_some_and(|column| column.parse::<usize>().is_ok_and(|column| column > 0)), "{}", run.err);
+            has_place(&text, &run.err);
         }
     }
     assert!(done > 5, "{done} are read");
 }
 
+/// Words that command lines are made of, and some that they are not.
+const WORDS: [&str; 20] = [
+    "import",
+    "show",
+    "check",
+    "product",
+    "help",
+    "--help",
+    "-h",
+    "-V",
+    "--version",
+    "-o",
+    "--",
+    "-",
+    "",
+    "0",
+    "1",
+    "-1",
+    "/dev/null",
+    "no-such-file",
+    "é",
+    "\n",
+];
+
 #[test]
 fn random_arguments() {
+    let folder = folder("fuzz-arguments");
     let mut r = Rng(13);
-    let words = ["import", "show", "check", "product", "help", "--help", "-h", "-V", "--version", "-o", "--", "-", "", "0", "1", "-1", "/dev/null", "no-such-file", "é", "\n"];
     for _ in 0..300 {
-        let arguments: Vec<&str> = (0..r.below(6)).map(|_| r.pick(&words)).collect();
-        // What could write a file in the folder of the tests is left out.
-        if arguments.contains(&"-o") && !arguments.contains(&"no-such-file") {
+        let arguments: Vec<&str> = (0..r.below(6)).map(|_| r.pick(&WORDS)).collect();
+        // What could write a file is left out.
+        if arguments.contains(&"-o") && arguments.iter().any(|path| Path::new(path).exists()) {
             continue;
         }
-        ends_well(&run(&arguments));
+        let output = command().args(&arguments).current_dir(&folder).output().expect("the command runs");
+        ends_well(&told(&output));
     }
+    assert_eq!(fs::read_dir(&folder).expect("a folder").count(), 0, "nothing is written");
 }

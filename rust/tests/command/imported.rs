@@ -1,8 +1,8 @@
-//! `thresholm import`: what is read, where faults are told, and what becomes of files.
-use crate::support::{file, folder, run, sheet};
+//! `thresholm import`: what is read, and where faults are told.
+use crate::support::{file, folder, run};
 use std::fs;
 use std::path::Path;
-use thresholm::{Flavor, Sheet, Shape};
+use thresholm::{Flavor, Shape, Sheet};
 
 /// Imports a text; gives the sheet.
 fn imported(test: &str, text: &str) -> Sheet {
@@ -25,11 +25,18 @@ fn fault(folder: &Path, text: &[u8]) -> String {
 
 #[test]
 fn both_forms_are_read() {
-    let sheet = imported("forms", "\u{feff}# a room\r\na: 2 VGA\r\n 1 2\t-3.5\r\n\r\n 4e2 # the last\r\nb: 3 dimensions, flavor PGA\n e20 = 7 e12=-0\n1=nan\n:1 dimension, Cl 0, 1\n0x7FF8000000000001 .5");
-    assert_eq!(sheet.shapes(), [Shape::new(2, Flavor::Vanilla), Shape::new(3, Flavor::Projective), Shape::new(1, Flavor::Cl(0, 1, 0))]);
+    let sheet = imported(
+        "forms",
+        "\u{feff}# a room\r\na: 2 VGA\r\n 1 2\t-3.5\r\n\r\n 4e2 # the last\r\nb: 3 dimensions, flavor PGA\n e20 = 7 e12=-0\n1=nan\n:1 dimension, Cl 0, 1\n0x7FF8000000000001 .5",
+    );
+    assert_eq!(
+        sheet.shapes(),
+        [Shape::new(2, Flavor::Vanilla), Shape::new(3, Flavor::Projective), Shape::new(1, Flavor::Cl(0, 1, 0))]
+    );
     let bits = |x: f64| x.to_bits();
     let (nan, zero) = (0x7FF8 << 48, 0);
-    let expected = [bits(1.0), bits(2.0), bits(-3.5), bits(400.0), nan, 0, 0, 0, 0, bits(7.0), 1 << 63, zero, nan | 1, bits(0.5)];
+    let expected =
+        [bits(1.0), bits(2.0), bits(-3.5), bits(400.0), nan, 0, 0, 0, 0, bits(7.0), 1 << 63, zero, nan | 1, bits(0.5)];
     assert_eq!(sheet.patterns(), expected);
 }
 
@@ -42,10 +49,17 @@ fn an_empty_text_is_an_empty_sheet() {
 #[test]
 fn values_are_listed_with_their_numbers() {
     let folder = folder("listed");
-    let text = file(&folder, "room.txt", b"left ear : 1 VGA\n1 2\n:0 Cl 4 x\n1");
+    let text = file(&folder, "room.txt", b"left ear : 1 VGA\n1 2\n:0 Cl 4\n1\nred\x1B[31m\tear: 0 VGA\n1");
     let rig = folder.join("room.rig");
     let out = run(&["import".as_ref(), text.as_ref(), "-o".as_ref(), rig.as_os_str()]).done();
-    let expected = format!("{}: 2 values, 3 coefficients\n  value 0: left ear: 1 dimension, flavor VGA\n  value 1: (no name): 0 dimensions, flavor Cl4\n", rig.display());
+    let expected = format!(
+        "{}: 3 values, 4 coefficients
+  value 0: left ear: 1 dimension, flavor VGA
+  value 1: (no name): 0 dimensions, flavor Cl4
+  value 2: red\\u{{1b}}[31m\\tear: 0 dimensions, flavor VGA
+",
+        rig.display()
+    );
     assert_eq!(out, expected);
 }
 
@@ -54,7 +68,7 @@ fn faults_have_their_line_and_column() {
     let folder = folder("faults");
     let value = "a value starts with a line such as 'left microphone: 3 PGA', and its numbers follow it";
     let header = "after the colon come the dimensions and the flavor, such as '3 PGA' or '4 Cl 3 0 1'";
-    let flavor = "(write VGA, PGA, or Cl and one to three whole numbers such as Cl 3 0 1)";
+    let flavor = "(write VGA, PGA, or Cl and one to three whole numbers from 0 to 255, such as Cl 3 0 1)";
     for (text, says) in [
         ("1 2 3", format!(":1:1: {value}")),
         ("# x\n\n   7", format!(":3:4: {value}")),
@@ -67,13 +81,38 @@ fn faults_have_their_line_and_column() {
         ("mic: 3 pga", format!(":1:8: this is no flavor: 'pga' {flavor}")),
         ("mic: 3 dimensions, flavor Cl\n1", format!(":1:27: this is no flavor: 'Cl' {flavor}")),
         ("mic: 1 VGA\n", ":1:1: this value has no numbers (a value of zeros is written 1 = 0)".to_string()),
-        ("  mic: 1 VGA\nb: 0 VGA\n1", ":1:3: this value has no numbers (a value of zeros is written 1 = 0)".to_string()),
+        (
+            "  mic: 1 VGA\nb: 0 VGA\n1",
+            ":1:3: this value has no numbers (a value of zeros is written 1 = 0)".to_string(),
+        ),
+    ] {
+        assert_eq!(fault(&folder, text.as_bytes()), says, "{text:?}");
+    }
+}
+
+#[test]
+fn faults_of_numbers_have_their_line_and_column() {
+    let folder = folder("faulty-numbers");
+    for (text, says) in [
         ("mic: 1 VGA\n1 1,5", ":2:3: this is no number: '1,5' (use a point)".to_string()),
-        ("mic: 1 VGA\n1\n\n  2 3", ":4:5: this number is too many: a value of 1 dimension has 2 numbers, and here are 3".to_string()),
+        (
+            "mic: 1 VGA\n1\n\n  2 3",
+            ":4:5: this number is too many: a value of 1 dimension has 2 numbers, and here are 3".to_string(),
+        ),
         (" mic: 2 VGA\n1 2 3", ":1:2: a value of 2 dimensions has 4 numbers, and here are 3".to_string()),
-        ("mic: 2 VGA\n e12 1", ":2:2: this is no number: 'e12' (a blade is written with its number: e12 = 0.5)".to_string()),
-        ("mic: 2 VGA\n e12 = 1 e3 = 2", ":2:10: there is no blade 'e3': the blades of this value are 1 e1 e2 e12".to_string()),
-        ("mic: 3 VGA\n e13 = 1", ":2:2: there is no blade 'e13': here this blade is written e31, and its number has the other sign".to_string()),
+        (
+            "mic: 2 VGA\n e12 1",
+            ":2:2: this is no number: 'e12' (a blade is written with its number: e12 = 0.5)".to_string(),
+        ),
+        (
+            "mic: 2 VGA\n e12 = 1 e3 = 2",
+            ":2:10: there is no blade 'e3': the blades of this value are 1 e1 e2 e12".to_string(),
+        ),
+        (
+            "mic: 3 VGA\n e13 = 1",
+            ":2:2: there is no blade 'e13': here this blade is written e31, and its number has the other sign"
+                .to_string(),
+        ),
         ("mic: 2 VGA\n = 1", ":2:2: before '=' stands the name of a blade, such as e12".to_string()),
         ("mic: 2 VGA\n e1 =", ":2:2: after the blade 'e1' come '=' and its number".to_string()),
         ("mic: 2 VGA\n e1 = 1 e2", ":2:9: after the blade 'e2' come '=' and its number".to_string()),
@@ -82,54 +121,48 @@ fn faults_have_their_line_and_column() {
     ] {
         assert_eq!(fault(&folder, text.as_bytes()), says, "{text:?}");
     }
-    assert_eq!(fault(&folder, b"mic: 0 VGA # \xC3\xA9\n1 # caf\xE9"), ":2:8: the byte 0xE9 is no part of a text (save the file as UTF-8)");
+    assert_eq!(
+        fault(&folder, b"mic: 0 VGA # \xC3\xA9\n1 # caf\xE9"),
+        ":2:8: the byte 0xE9 is no part of a text (save the file as UTF-8)"
+    );
+}
+
+#[test]
+fn the_words_after_cl_are_numbers() {
+    let folder = folder("spec");
+    let rule = "after Cl come p, n and z, whole numbers from 0 to 255";
+    for (text, says) in [
+        ("a: 3 Cl 3 1x", format!(":1:11: {rule}: '1x'")),
+        ("a: 3 Cl 3 256", format!(":1:11: {rule}: '256'")),
+        ("a: 3 Cl 3 -1", format!(":1:11: {rule}: '-1'")),
+        ("a: 3 Cl3 0,\tz", format!(":1:13: {rule}: 'z'")),
+        ("a: 3 dimensions, flavor Cl 3 x y", format!(":1:30: {rule}: 'x'")),
+        ("a: 3 Cl 256", ":1:6: this is no flavor: 'Cl 256' (write VGA, PGA, or Cl and one to three whole numbers from 0 to 255, such as Cl 3 0 1)".to_string()),
+        ("a: 3 Cl 1 2 3 4", ":1:6: this is no flavor: 'Cl 1 2 3 4' (write VGA, PGA, or Cl and one to three whole numbers from 0 to 255, such as Cl 3 0 1)".to_string()),
+    ] {
+        assert_eq!(fault(&folder, format!("{text}\n1 = 1").as_bytes()), says, "{text:?}");
+    }
+    for (text, flavor) in
+        [("Cl3", [3, 0, 0]), ("Cl 3 1", [3, 1, 0]), ("Cl3,0, 1", [3, 0, 1]), ("Cl 255 255 255", [255; 3])]
+    {
+        let [p, n, z] = flavor;
+        let sheet = imported("good-spec", &format!("a: 0 {text}\n1"));
+        assert_eq!(sheet.shapes(), [Shape::new(0, Flavor::Cl(p, n, z))], "{text}");
+    }
 }
 
 #[test]
 fn limits_are_told_with_their_line() {
     let folder = folder("limits");
-    let values = |count: usize, dims: u8| -> String { (0..count).map(|index| format!("v{index}: {dims} PGA\n1 = 1\n")).collect() };
+    let values = |count: usize, dims: u8| -> String {
+        (0..count).map(|index| format!("v{index}: {dims} PGA\n1 = 1\n")).collect()
+    };
     assert_eq!(fault(&folder, values(65, 0).as_bytes()), ":129:1: a rig sheet has at most 64 values; this is one more");
-    assert_eq!(fault(&folder, values(9, 9).as_bytes()), ":17:1: a rig sheet has at most 4096 numbers; with this value there are 4608");
+    assert_eq!(
+        fault(&folder, values(9, 9).as_bytes()),
+        ":17:1: a rig sheet has at most 4096 numbers; with this value there are 4608"
+    );
     assert_eq!(fault(&folder, &vec![b' '; (4 << 20) + 1]), ": the text is longer than 4194304 bytes");
     assert_eq!(imported("most-values", &values(64, 6)).patterns().len(), 4096);
     assert_eq!(imported("largest-values", &values(8, 9)).patterns().len(), 4096);
-}
-
-#[test]
-fn an_old_sheet_stays_until_the_text_is_right() {
-    let folder = folder("old");
-    let rig = file(&folder, "room.rig", b"old");
-    let wrong = file(&folder, "wrong.txt", b"mic: 0 VGA\nx");
-    run(&["import", &wrong, "-o", &rig]).refused();
-    assert_eq!(fs::read(&rig).expect("it is there"), b"old");
-    let right = file(&folder, "right.txt", b"mic: 0 VGA\n1");
-    run(&["import", &right, "-o", &rig]).done();
-    assert_eq!(fs::read(&rig).expect("it is there"), sheet(&[Shape::default()], &[1f64.to_bits()]));
-    let names = fs::read_dir(&folder).expect("a folder").count();
-    assert_eq!(names, 3, "no other file is left");
-}
-
-#[test]
-fn a_sheet_that_cannot_be_written_is_told() {
-    let folder = folder("unwritable");
-    let text = file(&folder, "room.txt", b"mic: 0 VGA\n1");
-    let here = folder.to_str().expect("a plain path");
-    for rig in [here, &format!("{here}/none/room.rig"), "", "/"] {
-        let message = run(&["import", &text, "-o", rig]).refused();
-        assert!(message.starts_with(&format!("{rig}: it cannot be written: ")), "{message}");
-    }
-}
-
-#[cfg(unix)]
-#[test]
-fn links_and_devices_are_written_through() {
-    let folder = folder("links");
-    let text = file(&folder, "room.txt", b"mic: 0 VGA\n1");
-    let (real, link) = (file(&folder, "real.rig", b"old"), folder.join("link.rig"));
-    std::os::unix::fs::symlink("real.rig", &link).expect("a link");
-    run(&["import".as_ref(), text.as_ref(), "-o".as_ref(), link.as_os_str()]).done();
-    assert!(fs::symlink_metadata(&link).expect("it is there").is_symlink());
-    assert_eq!(fs::read(&real).expect("it is there").len(), 19);
-    run(&["import", &text, "-o", "/dev/null"]).done();
 }

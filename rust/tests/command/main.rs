@@ -1,11 +1,12 @@
 //! The command `thresholm`, run as its users run it.
 mod checked;
 mod demand;
-mod example;
 mod exact;
+mod example;
 mod fuzz;
 mod imported;
 mod multiplied;
 mod shown;
 mod support;
 mod usage;
+mod written;

@@ -3,14 +3,9 @@ use crate::support::{Rng, file, folder, run, sheet};
 use std::fs;
 use thresholm::{Flavor, Shape};
 
-#[test]
-fn a_value_is_shown_in_words() {
-    let folder = folder("words");
-    let shapes = [Shape::new(3, Flavor::Projective), Shape::new(2, Flavor::Cl(0, 1, 1)), Shape::default()];
-    let bits = |x: f64| x.to_bits();
-    let patterns = [0, 0, 0, 0, bits(3500.0), bits(-1200.25), bits(1.0), 0, bits(-0.0), 0x7FF0_0000_0000_0001, bits(1e300), bits(f64::NEG_INFINITY), 0];
-    let rig = file(&folder, "room.rig", &sheet(&shapes, &patterns));
-    let expected = format!(
+/// What `show` says of the sheet below.
+fn words_of(rig: &str) -> String {
+    format!(
         "# {rig}: 3 values, 13 coefficients
 
 value 0: 3 dimensions, flavor PGA
@@ -35,8 +30,31 @@ value 2: 0 dimensions, flavor VGA
   1 = 0
 ",
         "0".repeat(300)
-    );
-    assert_eq!(run(&["show", &rig]).done(), expected);
+    )
+}
+
+#[test]
+fn a_value_is_shown_in_words() {
+    let folder = folder("words");
+    let shapes = [Shape::new(3, Flavor::Projective), Shape::new(2, Flavor::Cl(0, 1, 1)), Shape::default()];
+    let bits = |x: f64| x.to_bits();
+    let patterns = [
+        0,
+        0,
+        0,
+        0,
+        bits(3500.0),
+        bits(-1200.25),
+        bits(1.0),
+        0,
+        bits(-0.0),
+        0x7FF0_0000_0000_0001,
+        bits(1e300),
+        bits(f64::NEG_INFINITY),
+        0,
+    ];
+    let rig = file(&folder, "room.rig", &sheet(&shapes, &patterns));
+    assert_eq!(run(&["show", &rig]).done(), words_of(&rig));
 }
 
 #[test]
@@ -52,7 +70,18 @@ fn the_blade_whose_digits_are_printed_turned_round_is_noted() {
 
 /// A number of any kind, now and then one that is seldom met.
 fn pattern(r: &mut Rng) -> u64 {
-    let rare = [0, 1, 1 << 63, 0x7FF0 << 48, 0xFFF0 << 48, 0x7FF8 << 48, u64::MAX, 0x7FF0_0000_0000_0001, 0x3FF0 << 48, 0x10_0000_0000_0000];
+    let rare = [
+        0,
+        1,
+        1 << 63,
+        0x7FF0 << 48,
+        0xFFF0 << 48,
+        0x7FF8 << 48,
+        u64::MAX,
+        0x7FF0_0000_0000_0001,
+        0x3FF0 << 48,
+        0x10_0000_0000_0000,
+    ];
     match r.below(4) {
         0 => 0,
         1 => r.pick(&rare),

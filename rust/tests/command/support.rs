@@ -89,6 +89,13 @@ impl Rng {
     }
 
     pub fn flavor(&mut self) -> Flavor {
-        self.pick(&[Flavor::Vanilla, Flavor::Projective, Flavor::Cl(3, 0, 1), Flavor::Cl(0, 1, 1), Flavor::Cl(1, 2, 0), Flavor::NULL])
+        self.pick(&[
+            Flavor::Vanilla,
+            Flavor::Projective,
+            Flavor::Cl(3, 0, 1),
+            Flavor::Cl(0, 1, 1),
+            Flavor::Cl(1, 2, 0),
+            Flavor::NULL,
+        ])
     }
 }

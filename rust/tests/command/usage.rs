@@ -26,40 +26,61 @@ fn each_subcommand_has_its_help() {
 }
 
 #[test]
+fn help_says_what_is_proved_and_what_turns() {
+    let product = run(&["help", "product"]).done().replace('\n', " ");
+    assert!(product.contains("Both are proved of the library's product, coefficient by coefficient, also for factors that are first brought to one shape."), "{product}");
+    assert!(
+        product.contains(
+            "Where 3 VGA becomes PGA, e31 becomes e13 with the same number, so its sign turns; a note says so."
+        ),
+        "{product}"
+    );
+    let check = run(&["help", "check"]).done().replace('\n', " ");
+    assert!(check.contains("a number of several bytes, which is told by the byte at which it starts"), "{check}");
+}
+
+#[test]
 fn the_version_is_the_crates() {
     let version = format!("thresholm {}\n", env!("CARGO_PKG_VERSION"));
     assert_eq!(run(&["--version"]).done(), version);
     assert_eq!(run(&["-V"]).done(), version);
 }
 
+/// Command lines, and what is said of them.
+const MISUSED: [(&[&str], &str); 28] = [
+    (&[], "what shall be done?"),
+    (&["mix"], "there is no subcommand 'mix'"),
+    (&["-x"], "there is no subcommand '-x'"),
+    (&["help", "mix"], "there is no help for 'mix'"),
+    (&["help", "show", "check"], "help takes one name, so 'check' is too many"),
+    (&["import"], "the text file to read is missing"),
+    (&["import", "a.txt"], "-o and the rig sheet to write are missing"),
+    (&["import", "a.txt", "-o"], "after -o comes the file to write"),
+    (&["import", "a.txt", "-o", "b", "-o", "c"], "-o is here twice"),
+    (&["import", "a.txt", "b.txt", "-o", "c"], "one text file is read, so 'b.txt' is too many"),
+    (&["import", "-o", "c"], "the text file to read is missing"),
+    (&["show"], "the rig sheet to read is missing"),
+    (&["show", "a", "b"], "one rig sheet is read, so 'b' is too many"),
+    (&["show", "-o", "a"], "there is no option '-o'"),
+    (&["check", "--quick", "a"], "there is no option '--quick'"),
+    (&["check"], "the rig sheet to read is missing"),
+    (&["product"], "the rig sheet to read is missing"),
+    (&["product", "a"], "a product needs the numbers of two values or more"),
+    (&["product", "a", "1"], "a product needs the numbers of two values or more"),
+    (&["product", "a", "1", "x"], "a value is named by its number, 0 or more: 'x'"),
+    (&["product", "a", "1", "+2"], "a value is named by its number, 0 or more: '+2'"),
+    (&["product", "a", "1", ""], "a value is named by its number, 0 or more: ''"),
+    (&["product", "a", "1", "-2"], "there is no option '-2'"),
+    (&["product", "a", "1", "1.5"], "a value is named by its number, 0 or more: '1.5'"),
+    (&["--version", "x"], "nothing follows --version, so 'x' is too many"),
+    (&["-V", "--version"], "nothing follows -V, so '--version' is too many"),
+    (&["--help", "show"], "nothing follows --help, so 'show' is too many"),
+    (&["-h", "a", "b"], "nothing follows -h, so 'a' is too many"),
+];
+
 #[test]
 fn what_is_not_understood_is_told() {
-    for (arguments, says) in [
-        (&[][..], "what shall be done?"),
-        (&["mix"], "there is no subcommand 'mix'"),
-        (&["-x"], "there is no subcommand '-x'"),
-        (&["help", "mix"], "there is no help for 'mix'"),
-        (&["help", "show", "check"], "help takes one name, so 'check' is too many"),
-        (&["import"], "the text file to read is missing"),
-        (&["import", "a.txt"], "-o and the rig sheet to write are missing"),
-        (&["import", "a.txt", "-o"], "after -o comes the file to write"),
-        (&["import", "a.txt", "-o", "b", "-o", "c"], "-o is here twice"),
-        (&["import", "a.txt", "b.txt", "-o", "c"], "one text file is read, so 'b.txt' is too many"),
-        (&["import", "-o", "c"], "the text file to read is missing"),
-        (&["show"], "the rig sheet to read is missing"),
-        (&["show", "a", "b"], "one rig sheet is read, so 'b' is too many"),
-        (&["show", "-o", "a"], "there is no option '-o'"),
-        (&["check", "--quick", "a"], "there is no option '--quick'"),
-        (&["check"], "the rig sheet to read is missing"),
-        (&["product"], "the rig sheet to read is missing"),
-        (&["product", "a"], "a product needs the numbers of two values or more"),
-        (&["product", "a", "1"], "a product needs the numbers of two values or more"),
-        (&["product", "a", "1", "x"], "a value is named by its number, 0 or more: 'x'"),
-        (&["product", "a", "1", "+2"], "a value is named by its number, 0 or more: '+2'"),
-        (&["product", "a", "1", ""], "a value is named by its number, 0 or more: ''"),
-        (&["product", "a", "1", "-2"], "there is no option '-2'"),
-        (&["product", "a", "1", "99999999999999999999999"], "a value is named by its number, 0 or more: '99999999999999999999999'"),
-    ] {
+    for (arguments, says) in MISUSED {
         let message = run(arguments).misused();
         let mut lines = message.lines();
         assert_eq!(lines.next(), Some(&*format!("thresholm: {says}")), "{arguments:?}");
@@ -104,6 +125,15 @@ fn arguments_may_be_any_bytes() {
     assert!(run(&[word("product"), &odd, word("0"), &odd]).misused().contains("a value is named by its number"));
     let dashed = OsString::from_vec(vec![b'-', 0xFF]);
     assert!(run(&[word("check"), &dashed]).misused().contains("there is no option"));
+}
+
+#[cfg(unix)]
+#[test]
+fn names_of_files_may_be_any_bytes() {
+    use std::ffi::{OsStr, OsString};
+    use std::os::unix::ffi::OsStringExt;
+    let odd = OsString::from_vec(vec![b'x', 0xFF, 0xFE]);
+    let word = OsStr::new;
     let folder = folder("odd-names");
     let text = file(&folder, "one.txt", b": 0 VGA\n1");
     let rig = folder.join(&odd);
@@ -120,7 +150,8 @@ fn long_sheet(folder: &std::path::Path) -> String {
 #[test]
 fn a_reader_that_goes_away_is_no_fault() {
     let rig = long_sheet(&folder("gone"));
-    let mut child = command().args(["show", &rig]).stdout(Stdio::piped()).stderr(Stdio::piped()).spawn().expect("the command runs");
+    let mut child =
+        command().args(["show", &rig]).stdout(Stdio::piped()).stderr(Stdio::piped()).spawn().expect("the command runs");
     let mut first = [0; 10];
     child.stdout.take().expect("a pipe").read_exact(&mut first).expect("a few bytes");
     let run = told(&child.wait_with_output().expect("it ends"));

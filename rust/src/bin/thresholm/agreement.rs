@@ -1,9 +1,9 @@
-//! The diagnosis agrees with the library's reader: it finds a wrong byte exactly where the reader refuses.
-use crate::diagnosis::{MOST_BYTES, first_wrong_byte};
+//! The diagnosis agrees with the library's reader: it finds something wrong exactly where the reader refuses.
+use crate::diagnosis::{MOST_BYTES, first_wrong};
 use thresholm::{Error, Flavor, Shape, Sheet};
 
 fn agrees(bytes: &[u8]) {
-    match (Sheet::from_bytes(bytes), first_wrong_byte(bytes)) {
+    match (Sheet::from_bytes(bytes), first_wrong(bytes)) {
         (Ok(_), None) => {}
         (Err(error), Some(wrong)) => {
             assert_eq!(error, Error::Malformed, "{bytes:?}");

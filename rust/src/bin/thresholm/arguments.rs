@@ -6,10 +6,21 @@ use std::path::PathBuf;
 
 #[derive(Debug, PartialEq, Eq)]
 pub enum Task {
-    Import { text: PathBuf, rig: PathBuf },
-    Show { rig: PathBuf },
-    Check { rig: PathBuf },
-    Product { rig: PathBuf, indices: Vec<usize> },
+    Import {
+        text: PathBuf,
+        rig: PathBuf,
+    },
+    Show {
+        rig: PathBuf,
+    },
+    Check {
+        rig: PathBuf,
+    },
+    /// The indices are digits: however many there are, a number that is too large names no value.
+    Product {
+        rig: PathBuf,
+        indices: Vec<String>,
+    },
     Help(Topic),
     Version,
 }
@@ -29,9 +40,10 @@ pub fn task_of(arguments: Vec<OsString>) -> Result<Task, Stop> {
     };
     let topic = match first.to_str() {
         Some("help") => return help_of(rest),
-        Some("--help" | "-h") => return Ok(Task::Help(Topic::All)),
-        Some("--version" | "-V") => return Ok(Task::Version),
-        _ => Topic::named(&first).ok_or_else(|| Stop::usage(Topic::All, format!("there is no subcommand {}", shown(&first))))?,
+        Some("--help" | "-h") => return alone(&first, rest, Task::Help(Topic::All)),
+        Some("--version" | "-V") => return alone(&first, rest, Task::Version),
+        _ => Topic::named(&first)
+            .ok_or_else(|| Stop::usage(Topic::All, format!("there is no subcommand {}", shown(&first))))?,
     };
     let words = words_of(topic, rest)?;
     if words.help {
@@ -50,6 +62,17 @@ pub fn shown(argument: &OsStr) -> String {
     crate::numbers::quoted(&argument.to_string_lossy())
 }
 
+/// The task of an option that nothing may follow.
+fn alone(option: &OsStr, mut rest: impl Iterator<Item = OsString>, task: Task) -> Result<Task, Stop> {
+    match rest.next() {
+        None => Ok(task),
+        Some(extra) => Err(Stop::usage(
+            Topic::All,
+            format!("nothing follows {}, so {} is too many", option.display(), shown(&extra)),
+        )),
+    }
+}
+
 fn help_of(mut rest: impl Iterator<Item = OsString>) -> Result<Task, Stop> {
     match (rest.next(), rest.next()) {
         (None, _) => Ok(Task::Help(Topic::All)),
@@ -57,7 +80,9 @@ fn help_of(mut rest: impl Iterator<Item = OsString>) -> Result<Task, Stop> {
             Some(topic) => Ok(Task::Help(topic)),
             None => Err(Stop::usage(Topic::All, format!("there is no help for {}", shown(&name)))),
         },
-        (_, Some(extra)) => Err(Stop::usage(Topic::All, format!("help takes one name, so {} is too many", shown(&extra)))),
+        (_, Some(extra)) => {
+            Err(Stop::usage(Topic::All, format!("help takes one name, so {} is too many", shown(&extra))))
+        }
     }
 }
 
@@ -86,7 +111,9 @@ fn import_of(words: Words) -> Result<Task, Stop> {
         ([text], Some(rig)) => Ok(Task::Import { text: text.into(), rig: rig.into() }),
         ([_], None) => Err(Stop::usage(Topic::Import, "-o and the rig sheet to write are missing")),
         ([], _) => Err(Stop::usage(Topic::Import, "the text file to read is missing")),
-        ([_, extra, ..], _) => Err(Stop::usage(Topic::Import, format!("one text file is read, so {} is too many", shown(extra)))),
+        ([_, extra, ..], _) => {
+            Err(Stop::usage(Topic::Import, format!("one text file is read, so {} is too many", shown(extra))))
+        }
     }
 }
 
@@ -103,11 +130,13 @@ fn product_of(words: Words) -> Result<Task, Stop> {
         return Err(Stop::usage(Topic::Product, "the rig sheet to read is missing"));
     };
     let index = |word: &OsString| {
-        let digits = word.to_str().filter(|text| text.bytes().all(|b| b.is_ascii_digit()));
-        let number = digits.and_then(|text| text.parse().ok());
-        number.ok_or_else(|| Stop::usage(Topic::Product, format!("a value is named by its number, 0 or more: {}", shown(word))))
+        let digits = word.to_str().filter(|text| !text.is_empty() && text.bytes().all(|b| b.is_ascii_digit()));
+        let told = digits.map(str::to_string);
+        told.ok_or_else(|| {
+            Stop::usage(Topic::Product, format!("a value is named by its number, 0 or more: {}", shown(word)))
+        })
     };
-    let indices: Vec<usize> = indices.iter().map(index).collect::<Result<_, _>>()?;
+    let indices: Vec<String> = indices.iter().map(index).collect::<Result<_, _>>()?;
     match indices.len() {
         2.. => Ok(Task::Product { rig: rig.into(), indices }),
         _ => Err(Stop::usage(Topic::Product, "a product needs the numbers of two values or more")),

@@ -28,7 +28,9 @@ pub fn place_of(names: &[String], text: &str) -> Result<usize, String> {
     let same = |name: &&String| sorted(name) == sorted(text);
     Err(match names.iter().find(same) {
         Some(name) if is_even_change(name, text) => format!("here this blade is written {name}"),
-        Some(name) => format!("here this blade is written {name}, and its number has the other sign"),
+        Some(name) => {
+            format!("here this blade is written {name}, and its number has the other sign")
+        }
         None if names.len() <= 8 => format!("the blades of this value are {}", names.join(" ")),
         None => format!("the blades of this value go from 1 to {}", names[names.len() - 1]),
     })
@@ -71,11 +73,17 @@ mod tests {
     fn a_blade_is_found_by_its_name() {
         let three = names(Shape::new(3, Flavor::Vanilla));
         assert_eq!(place_of(&three, "e31"), Ok(5));
-        assert_eq!(place_of(&three, "e13"), Err("here this blade is written e31, and its number has the other sign".to_string()));
+        assert_eq!(
+            place_of(&three, "e13"),
+            Err("here this blade is written e31, and its number has the other sign".to_string())
+        );
         assert_eq!(place_of(&three, "e231"), Err("here this blade is written e123".to_string()));
         assert_eq!(place_of(&three, "e4"), Err("the blades of this value are 1 e1 e2 e3 e12 e31 e23 e123".to_string()));
         let four = names(Shape::new(4, Flavor::Projective));
-        assert_eq!(place_of(&four, "e20"), Err("here this blade is written e02, and its number has the other sign".to_string()));
+        assert_eq!(
+            place_of(&four, "e20"),
+            Err("here this blade is written e02, and its number has the other sign".to_string())
+        );
         assert_eq!(place_of(&four, "x"), Err("the blades of this value go from 1 to e0123".to_string()));
         assert_eq!(place_of(&four, "é"), Err("the blades of this value go from 1 to e0123".to_string()));
     }

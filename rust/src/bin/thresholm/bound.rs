@@ -141,7 +141,8 @@ mod tests {
 
     #[test]
     fn the_grid_ends_at_46_digits_and_at_53() {
-        let number = |x: f64, y: f64| spelled(&Pair { masks: &[0], null: 0, left: &[x], right: &[y] }.coefficients()[0]);
+        let number =
+            |x: f64, y: f64| spelled(&Pair { masks: &[0], null: 0, left: &[x], right: &[y] }.coefficients()[0]);
         let power = |e: i32| 2f64.powi(e);
         assert_eq!(number(power(-23), power(-23)), "exact");
         assert_eq!(number(power(-46), 1.0), "exact");

@@ -1,4 +1,5 @@
-//! Which byte of a rig sheet is wrong, and why. The library's reader decides whether a sheet is valid; this only explains its refusal.
+//! Which byte or number of a rig sheet is wrong, and why. The library's reader decides whether a sheet is valid; this only explains its refusal.
+use std::fmt;
 use thresholm::{MAX_DIMS, MAX_PATTERNS, MAX_SHAPES};
 
 const SHAPE_BYTES: usize = 5;
@@ -7,19 +8,33 @@ const NUMBER_BYTES: usize = 8;
 /// The most bytes that a sheet can have.
 pub const MOST_BYTES: usize = 2 + SHAPE_BYTES * MAX_SHAPES + 4 + NUMBER_BYTES * MAX_PATTERNS;
 
-/// The first wrong byte, counted from 0, with the reason.
+/// What is the first that cannot stand, with the reason.
 #[derive(Debug, PartialEq, Eq)]
-pub struct WrongByte {
+pub struct Wrong {
+    /// Its first byte, counted from 0.
     pub at: usize,
+    /// It is a number of several bytes, and any of them may be the wrong one.
+    pub long: bool,
     pub why: String,
 }
 
-fn wrong<T>(at: usize, why: String) -> Result<T, WrongByte> {
-    Err(WrongByte { at, why })
+impl fmt::Display for Wrong {
+    fn fmt(&self, f: &mut fmt::Formatter<'_>) -> fmt::Result {
+        let what = if self.long { "the number that starts at byte" } else { "byte" };
+        write!(f, "{what} {}: {}", self.at, self.why)
+    }
+}
+
+fn wrong<T>(at: usize, why: String) -> Result<T, Wrong> {
+    Err(Wrong { at, long: false, why })
+}
+
+fn wrong_number<T>(at: usize, why: String) -> Result<T, Wrong> {
+    Err(Wrong { at, long: true, why })
 }
 
 /// The bytes from `at` on that hold `what`, or that the file ends too early.
-fn part<'b>(bytes: &'b [u8], at: usize, count: usize, what: &str) -> Result<&'b [u8], WrongByte> {
+fn part<'b>(bytes: &'b [u8], at: usize, count: usize, what: &str) -> Result<&'b [u8], Wrong> {
     match bytes.get(at..at + count) {
         Some(part) => Ok(part),
         None => wrong(bytes.len(), format!("the file ends here, before the end of {what}")),
@@ -31,14 +46,14 @@ fn number(bytes: &[u8]) -> usize {
 }
 
 /// Walks through a sheet's bytes as document 01 lays them out. Nothing where every byte is right.
-pub fn first_wrong_byte(bytes: &[u8]) -> Option<WrongByte> {
+pub fn first_wrong(bytes: &[u8]) -> Option<Wrong> {
     walk(bytes).err()
 }
 
-fn walk(bytes: &[u8]) -> Result<(), WrongByte> {
+fn walk(bytes: &[u8]) -> Result<(), Wrong> {
     let values = number(part(bytes, 0, 2, "the count of values")?);
     if values > MAX_SHAPES {
-        return wrong(0, format!("the count of values is {values}; a sheet has at most {MAX_SHAPES}"));
+        return wrong_number(0, format!("the count of values is {values}; a sheet has at most {MAX_SHAPES}"));
     }
     let mut needed = 0;
     for value in 0..values {
@@ -47,25 +62,29 @@ fn walk(bytes: &[u8]) -> Result<(), WrongByte> {
     let at = 2 + SHAPE_BYTES * values;
     let told = number(part(bytes, at, 4, "the count of coefficients")?);
     if told > MAX_PATTERNS {
-        return wrong(at, format!("the count of coefficients is {told}; a sheet has at most {MAX_PATTERNS}"));
+        return wrong_number(at, format!("the count of coefficients is {told}; a sheet has at most {MAX_PATTERNS}"));
     }
     if told != needed {
-        return wrong(at, format!("the count of coefficients is {told}; the values have {needed}"));
+        return wrong_number(at, format!("the count of coefficients is {told}; the values have {needed}"));
     }
     coefficients(bytes, at + 4, told)
 }
 
 /// The five bytes of one value's shape; tells how many coefficients it has.
-fn shape(bytes: &[u8], value: usize) -> Result<usize, WrongByte> {
+fn shape(bytes: &[u8], value: usize) -> Result<usize, Wrong> {
     let at = 2 + SHAPE_BYTES * value;
     let of = format!("of value {value}");
     for place in 0..SHAPE_BYTES {
         let what = ["the dimensions", "the kind", "p", "n", "z"][place];
         let byte = part(bytes, at + place, 1, &format!("{what} {of}"))?[0];
         let why = match place {
-            0 if byte > MAX_DIMS => format!("the dimensions {of} are {byte}; there are at most {MAX_DIMS}"),
+            0 if byte > MAX_DIMS => {
+                format!("the dimensions {of} are {byte}; there are at most {MAX_DIMS}")
+            }
             1 if byte > 2 => format!("the kind {of} is {byte}; it must be 0, 1 or 2"),
-            2.. if byte != 0 && bytes[at + 1] < 2 => format!("{what} {of} is {byte}; it must be 0, since the kind is not 2"),
+            2.. if byte != 0 && bytes[at + 1] < 2 => {
+                format!("{what} {of} is {byte}; it must be 0, since the kind is not 2")
+            }
             _ => continue,
         };
         return wrong(at + place, why);
@@ -73,11 +92,14 @@ fn shape(bytes: &[u8], value: usize) -> Result<usize, WrongByte> {
     Ok(1 << bytes[at])
 }
 
-fn coefficients(bytes: &[u8], at: usize, count: usize) -> Result<(), WrongByte> {
+fn coefficients(bytes: &[u8], at: usize, count: usize) -> Result<(), Wrong> {
     let end = at + NUMBER_BYTES * count;
     if bytes.len() < end {
         let number = (bytes.len() - at) / NUMBER_BYTES;
-        return wrong(bytes.len(), format!("the file ends here, in coefficient {number} of {count}; the sheet has {end} bytes"));
+        return wrong(
+            bytes.len(),
+            format!("the file ends here, in coefficient {number} of {count}; the sheet has {end} bytes"),
+        );
     }
     if bytes.len() > end {
         return wrong(end, format!("the sheet has {end} bytes; nothing may follow it"));
@@ -92,12 +114,11 @@ mod tests {
     /// One Vanilla 1.0, from document 01's table.
     const ONE: [u8; 19] = [1, 0, 0, 0, 0, 0, 0, 1, 0, 0, 0, 0, 0, 0, 0, 0, 0, 0xF0, 0x3F];
 
-    fn told(bytes: &[u8]) -> (usize, String) {
-        let wrong = first_wrong_byte(bytes).expect("a byte is wrong");
-        (wrong.at, wrong.why)
+    fn told(bytes: &[u8]) -> String {
+        first_wrong(bytes).expect("a byte is wrong").to_string()
     }
 
-    fn changed(at: usize, byte: u8) -> (usize, String) {
+    fn changed(at: usize, byte: u8) -> String {
         let mut bytes = ONE;
         bytes[at] = byte;
         told(&bytes)
@@ -105,27 +126,36 @@ mod tests {
 
     #[test]
     fn a_good_sheet_has_no_wrong_byte() {
-        assert_eq!(first_wrong_byte(&ONE), None);
-        assert_eq!(first_wrong_byte(&[0; 6]), None);
+        assert_eq!(first_wrong(&ONE), None);
+        assert_eq!(first_wrong(&[0; 6]), None);
     }
 
     #[test]
     fn each_field_is_told() {
-        assert_eq!(changed(1, 1), (0, "the count of values is 257; a sheet has at most 64".to_string()));
-        assert_eq!(changed(2, 10), (2, "the dimensions of value 0 are 10; there are at most 9".to_string()));
-        assert_eq!(changed(3, 3), (3, "the kind of value 0 is 3; it must be 0, 1 or 2".to_string()));
-        assert_eq!(changed(5, 7), (5, "n of value 0 is 7; it must be 0, since the kind is not 2".to_string()));
-        assert_eq!(changed(7, 2), (7, "the count of coefficients is 2; the values have 1".to_string()));
-        assert_eq!(changed(8, 16), (7, "the count of coefficients is 4097; a sheet has at most 4096".to_string()));
+        assert_eq!(
+            changed(1, 1),
+            "the number that starts at byte 0: the count of values is 257; a sheet has at most 64"
+        );
+        assert_eq!(changed(2, 10), "byte 2: the dimensions of value 0 are 10; there are at most 9");
+        assert_eq!(changed(3, 3), "byte 3: the kind of value 0 is 3; it must be 0, 1 or 2");
+        assert_eq!(changed(5, 7), "byte 5: n of value 0 is 7; it must be 0, since the kind is not 2");
+        assert_eq!(
+            changed(7, 2),
+            "the number that starts at byte 7: the count of coefficients is 2; the values have 1"
+        );
+        assert_eq!(
+            changed(8, 16),
+            "the number that starts at byte 7: the count of coefficients is 4097; a sheet has at most 4096"
+        );
     }
 
     #[test]
     fn ends_are_told() {
-        assert_eq!(told(&[]), (0, "the file ends here, before the end of the count of values".to_string()));
-        assert_eq!(told(&ONE[..4]), (4, "the file ends here, before the end of p of value 0".to_string()));
-        assert_eq!(told(&ONE[..9]), (9, "the file ends here, before the end of the count of coefficients".to_string()));
-        assert_eq!(told(&ONE[..18]), (18, "the file ends here, in coefficient 0 of 1; the sheet has 19 bytes".to_string()));
+        assert_eq!(told(&[]), "byte 0: the file ends here, before the end of the count of values");
+        assert_eq!(told(&ONE[..4]), "byte 4: the file ends here, before the end of p of value 0");
+        assert_eq!(told(&ONE[..9]), "byte 9: the file ends here, before the end of the count of coefficients");
+        assert_eq!(told(&ONE[..18]), "byte 18: the file ends here, in coefficient 0 of 1; the sheet has 19 bytes");
         let longer = [&ONE[..], &[0, 0]].concat();
-        assert_eq!(told(&longer), (19, "the sheet has 19 bytes; nothing may follow it".to_string()));
+        assert_eq!(told(&longer), "byte 19: the sheet has 19 bytes; nothing may follow it");
     }
 }

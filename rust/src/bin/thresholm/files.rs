@@ -1,5 +1,5 @@
 //! Files: read up to a limit, written whole or not at all.
-use crate::diagnosis::{MOST_BYTES, first_wrong_byte};
+use crate::diagnosis::{MOST_BYTES, first_wrong};
 use crate::stop::Stop;
 use std::fs::{self, File};
 use std::io::{self, Read, Write};
@@ -16,11 +16,11 @@ pub fn bytes_of(path: &Path, most: usize) -> Result<Vec<u8>, Stop> {
     }
 }
 
-/// A file's rig sheet. Where the library's reader refuses it, the first wrong byte is told.
+/// A file's rig sheet. Where the library's reader refuses it, the first that is wrong is told.
 pub fn sheet_of(path: &Path) -> Result<Sheet, Stop> {
     let bytes = bytes_of(path, MOST_BYTES)?;
-    Sheet::from_bytes(&bytes).map_err(|error| match first_wrong_byte(&bytes) {
-        Some(wrong) => Stop::in_file(path, format!("byte {}: {}", wrong.at, wrong.why)),
+    Sheet::from_bytes(&bytes).map_err(|error| match first_wrong(&bytes) {
+        Some(wrong) => Stop::in_file(path, wrong),
         None => Stop::in_file(path, format!("refused with {}: {error}", error.number())),
     })
 }
@@ -29,16 +29,36 @@ pub fn sheet_of(path: &Path) -> Result<Sheet, Stop> {
 pub fn write_whole(path: &Path, bytes: &[u8]) -> Result<(), Stop> {
     let written = match fs::metadata(path) {
         Ok(there) if !there.is_file() => fs::write(path, bytes),
-        Ok(_) => fs::canonicalize(path).and_then(|path| replace(&path, bytes)),
-        Err(_) => replace(path, bytes),
+        _ => led_to(path).and_then(|path| replace(&path, bytes)),
     };
     written.map_err(|error| Stop::in_file(path, format!("it cannot be written: {error}")))
 }
 
+/// Where the links of a path lead to, also where the last of them leads to no file yet.
+fn led_to(path: &Path) -> io::Result<PathBuf> {
+    const MOST_LINKS: usize = 40;
+    let mut path = path.to_path_buf();
+    for _ in 0..MOST_LINKS {
+        match fs::read_link(&path) {
+            Ok(next) => path.set_file_name(next),
+            Err(_) => return Ok(path),
+        }
+    }
+    Err(io::Error::other("its links lead to no end"))
+}
+
+/// A new file takes the place of an old one, and its permissions.
 fn replace(path: &Path, bytes: &[u8]) -> io::Result<()> {
     let beside = beside(path)?;
     let mut file = File::options().write(true).create_new(true).open(&beside)?;
-    let written = file.write_all(bytes).and_then(|()| file.sync_all()).and_then(|()| fs::rename(&beside, path));
+    let permitted = match fs::metadata(path) {
+        Ok(old) => file.set_permissions(old.permissions()),
+        Err(_) => Ok(()),
+    };
+    let written = permitted
+        .and_then(|()| file.write_all(bytes))
+        .and_then(|()| file.sync_all())
+        .and_then(|()| fs::rename(&beside, path));
     if written.is_err() {
         // The failure above is what is told; a file that cannot be removed either stays.
         let _ = fs::remove_file(&beside);

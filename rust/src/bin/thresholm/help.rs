@@ -49,7 +49,7 @@ thresholm: rig sheets of multivectors, and their products
 
   thresholm import FILE.txt -o RIG  make a rig sheet from a text list of values
   thresholm show RIG                print a rig sheet, value by value
-  thresholm check RIG               say that a rig sheet is valid, or which byte is wrong
+  thresholm check RIG               say that a rig sheet is valid, or where it is wrong
   thresholm product RIG I J ...     multiply values in order, and say how near to exact that is
   thresholm help SUBCOMMAND         more about one of these (or: thresholm SUBCOMMAND --help)
   thresholm --version               the version
@@ -65,7 +65,8 @@ const IMPORT: &str = "\
 thresholm import FILE.txt -o RIG
 
 Reads a text list of values and writes the rig sheet RIG. An old RIG is replaced only when the
-whole text is right. The values are listed with the numbers that they have in the sheet.
+whole text is right; the text itself is never overwritten. The values are listed with the numbers
+that they have in the sheet.
 
 For each value the text has one line with a name, a colon, the dimensions and the flavor; after it
 come the value's numbers, on as many lines as you like:
@@ -82,7 +83,8 @@ come the value's numbers, on as many lines as you like:
   be left out, the colon may not.
 - The dimensions are 0 to 9. '3 PGA' may also be written '3 dimensions, flavor PGA'.
 - The flavor is VGA (every basis vector squares to 1), PGA (the first one to 0, the others to 1),
-  or Cl and one to three whole numbers p n z (the first z to 0, the next n to -1, the others to 1).
+  or Cl and one to three whole numbers p n z from 0 to 255 (the first z to 0, the next n to -1, the
+  others to 1; p plays no part).
 - The numbers are given by blades, as e12 = 0.5, where those left out are 0; or all of them are
   given, 2^dimensions numbers in the order of the blades: for 3 VGA it is
   1 e1 e2 e3 e12 e31 e23 e123. Where the first basis vector squares to 0, blades are counted from
@@ -108,8 +110,9 @@ What is printed is also a text for 'thresholm import': it gives the same rig she
 const CHECK: &str = "\
 thresholm check RIG
 
-Says that a rig sheet is valid, with its counts, or which byte is the first that is wrong, and why.
-Bytes are counted from 0. The proved reader decides whether a sheet is valid; the reason explains it.
+Says that a rig sheet is valid, with its counts, or what is the first that cannot stand, and why: a
+byte, or a number of several bytes, which is told by the byte at which it starts. Bytes are counted
+from 0. The proved reader decides whether a sheet is valid; the reason explains it.
 
 A sheet is, the lowest byte of each number first:
 - 2 bytes: the count of values, at most 64;
@@ -137,11 +140,12 @@ of the sizes of their products.
   within (n + 1) x T x 2^-53 + 2^-46 of the exact sum.
 - Where the factors are finite multiples of 2^-p and of 2^-q, p + q at most 46, and T at most 2^53
   units of 2^-(p + q), it is exact.
-Both are proved of the library's product for two factors of one shape, the second where every
-coefficient has such a T. Here it is applied to each coefficient by itself, as demand 3 words it.
+Both are proved of the library's product, coefficient by coefficient, also for factors that are
+first brought to one shape.
 
 Factors of unlike shape are brought to one shape first: VGA becomes PGA where it meets PGA, the
 smaller one grows, and the left one's flavor is used. The bound is about the factors so changed.
+Where 3 VGA becomes PGA, e31 becomes e13 with the same number, so its sign turns; a note says so.
 With three or more factors each step's bound is about what goes into that step, the result of the
 step before it as it stands. The last line says what follows for the whole product.
 ";

@@ -49,7 +49,9 @@ fn done(task: Task) -> Result<String, Stop> {
 fn print(text: &str) -> Result<(), Stop> {
     let mut out = io::stdout().lock();
     match out.write_all(text.as_bytes()).and_then(|()| out.flush()) {
-        Err(error) if error.kind() != ErrorKind::BrokenPipe => Err(Stop::Refused(format!("thresholm: standard output cannot be written: {error}"))),
+        Err(error) if error.kind() != ErrorKind::BrokenPipe => {
+            Err(Stop::Refused(format!("thresholm: standard output cannot be written: {error}")))
+        }
         _ => Ok(()),
     }
 }

@@ -3,7 +3,8 @@
 /// The bit pattern of a number's text, or what is wrong with it.
 pub fn pattern_of(text: &str) -> Result<u64, String> {
     if let Some(digits) = text.strip_prefix("0x").or_else(|| text.strip_prefix("0X")) {
-        return exact_bits(digits).ok_or_else(|| format!("a bit pattern has 16 digits 0 to 9 or A to F after 0x: {}", quoted(text)));
+        return exact_bits(digits)
+            .ok_or_else(|| format!("a bit pattern has 16 digits 0 to 9 or A to F after 0x: {}", quoted(text)));
     }
     let Ok(number) = text.parse::<f64>() else {
         return Err(format!("this is no number: {}{}", quoted(text), hint(text)));
@@ -45,10 +46,15 @@ fn is_blade_like(text: &str) -> bool {
 
 /// Text between quotes, short, and with no control characters.
 pub fn quoted(text: &str) -> String {
+    format!("'{}'", short(text))
+}
+
+/// The start of a text with no control characters, all of it where it is short.
+pub fn short(text: &str) -> String {
     const LONGEST: usize = 40;
     let start: String = text.chars().take(LONGEST).flat_map(char::escape_debug).collect();
     let more = if text.chars().nth(LONGEST).is_some() { "..." } else { "" };
-    format!("'{start}{more}'")
+    format!("{start}{more}")
 }
 
 /// A number in few characters that read back as the same number.
@@ -78,7 +84,15 @@ mod tests {
 
     #[test]
     fn numbers_are_read() {
-        for (text, number) in [("1", 1.0), ("-0", -0.0), (".5", 0.5), ("+2.5e3", 2500.0), ("inf", f64::INFINITY), ("0e5", 0.0), ("5e-324", f64::from_bits(1))] {
+        for (text, number) in [
+            ("1", 1.0),
+            ("-0", -0.0),
+            (".5", 0.5),
+            ("+2.5e3", 2500.0),
+            ("inf", f64::INFINITY),
+            ("0e5", 0.0),
+            ("5e-324", f64::from_bits(1)),
+        ] {
             assert_eq!(pattern_of(text), Ok(f64::to_bits(number)), "{text}");
         }
         assert_eq!(pattern_of("0x7ff8000000000001"), Ok(0x7ff8_0000_0000_0001));

@@ -2,11 +2,11 @@
 use crate::blades;
 use crate::bound::{Coefficient, Nearness, Pair, outside, spelled_limit};
 use crate::files::sheet_of;
-use crate::numbers::{counted, spelled};
+use crate::numbers::{counted, short, spelled};
 use crate::show::{shape_words, turned_name};
 use crate::stop::Stop;
 use std::path::Path;
-use thresholm::{Error, Multivector, Sheet};
+use thresholm::{Error, Flavor, Multivector, Shape, Sheet};
 
 /// A factor and what it is called.
 struct Factor {
@@ -23,9 +23,9 @@ struct Step {
     notes: Vec<String>,
 }
 
-pub fn product(rig: &Path, indices: &[usize]) -> Result<String, Stop> {
+pub fn product(rig: &Path, indices: &[String]) -> Result<String, Stop> {
     let sheet = sheet_of(rig)?;
-    let factors: Vec<Factor> = indices.iter().map(|index| factor(rig, &sheet, *index)).collect::<Result<_, _>>()?;
+    let factors: Vec<Factor> = indices.iter().map(|index| factor(rig, &sheet, index)).collect::<Result<_, _>>()?;
     let mut lines = Vec::new();
     let mut steps = Vec::new();
     let mut rest = factors.into_iter();
@@ -33,7 +33,8 @@ pub fn product(rig: &Path, indices: &[usize]) -> Result<String, Stop> {
     for (number, right) in rest.enumerate() {
         let Some(factor) = left.take() else { break };
         let title = format!("step {}: {} times {}", number + 1, factor.called, right.called);
-        let step = multiplied(&factor, &right).map_err(|error| Stop::in_file(rig, format!("{title}: refused with {}: {error}", error.number())))?;
+        let step = multiplied(&factor, &right)
+            .map_err(|error| Stop::in_file(rig, format!("{title}: refused with {}: {error}", error.number())))?;
         lines.push(title);
         lines.extend(told(&step));
         left = Some(Factor { value: step.value.clone(), called: format!("the result of step {}", number + 1) });
@@ -44,11 +45,18 @@ pub fn product(rig: &Path, indices: &[usize]) -> Result<String, Stop> {
     Ok(lines.join("\n"))
 }
 
-fn factor(rig: &Path, sheet: &Sheet, index: usize) -> Result<Factor, Stop> {
-    match sheet.value(index) {
-        Ok(value) => Ok(Factor { value, called: format!("value {index}") }),
-        Err(_) if sheet.is_empty() => Err(Stop::in_file(rig, format!("there is no value {index}: the sheet has none"))),
-        Err(_) => Err(Stop::in_file(rig, format!("there is no value {index}: they are numbered from 0 to {}", sheet.len() - 1))),
+/// The value whose number the digits are.
+fn factor(rig: &Path, sheet: &Sheet, digits: &str) -> Result<Factor, Stop> {
+    let found = digits.parse().ok().and_then(|index| Some((index, sheet.value(index).ok()?)));
+    match found {
+        Some((index, value)) => Ok(Factor { value, called: format!("value {index}") }),
+        None if sheet.is_empty() => {
+            Err(Stop::in_file(rig, format!("there is no value {}: the sheet has none", short(digits))))
+        }
+        None => Err(Stop::in_file(
+            rig,
+            format!("there is no value {}: they are numbered from 0 to {}", short(digits), sheet.len() - 1),
+        )),
     }
 }
 
@@ -57,24 +65,63 @@ fn multiplied(left: &Factor, right: &Factor) -> Result<Step, Error> {
     let product = left.value.general_product(&right.value)?;
     let (a, b) = left.value.conform(&right.value)?;
     let shape = product.value.shape();
-    let null = (0..shape.dims).filter(|index| shape.flavor.metric(*index) == 0).fold(0, |mask, index| mask | 1 << index);
+    let null =
+        (0..shape.dims).filter(|index| shape.flavor.metric(*index) == 0).fold(0, |mask, index| mask | 1 << index);
     let masks: Vec<usize> = shape.order().masks().iter().map(|mask| usize::from(*mask)).collect();
     let coefficients = Pair { masks: &masks, null, left: a.numbers(), right: b.numbers() }.coefficients();
-    let mut notes = Vec::new();
-    for factor in [left, right].into_iter().filter(|factor| factor.value.shape() != shape) {
-        notes.push(format!("{} ({}) is first brought to {}", factor.called, shape_words(factor.value.shape()), shape_words(shape)));
+    let open = coefficients.iter().any(|coefficient| coefficient.nearness == Nearness::Open);
+    Ok(Step {
+        notes: notes([(left, &a), (right, &b)], shape, open),
+        value: product.value,
+        pairs: product.pairs,
+        coefficients,
+    })
+}
+
+/// What there is to say of two factors, each with its conformed value; where a coefficient has no bound, also why.
+fn notes(both: [(&Factor, &Multivector); 2], result: Shape, open: bool) -> Vec<String> {
+    let changed = |(factor, conformed): (&Factor, &Multivector)| brought(factor, conformed.shape(), result);
+    let turned = |(factor, conformed): (&Factor, &Multivector)| sign_turned(factor, conformed.shape());
+    let mut notes: Vec<String> = both.into_iter().filter_map(changed).collect();
+    notes.extend(both.into_iter().filter_map(turned));
+    if open {
+        notes.extend(both.into_iter().filter_map(|(factor, conformed)| unbounded(&factor.called, conformed)));
     }
-    if coefficients.iter().any(|coefficient| coefficient.nearness == Nearness::Open) {
-        notes.extend([(left, &a), (right, &b)].into_iter().filter_map(|(factor, value)| unbounded(&factor.called, value)));
-    }
-    Ok(Step { value: product.value, pairs: product.pairs, coefficients, notes })
+    // A value times itself has the same to say twice.
+    notes.dedup();
+    notes
+}
+
+/// How a factor is changed before it is multiplied: conforming keeps its flavor unless it promotes it, and the left one's metric is used.
+fn brought(factor: &Factor, conformed: Shape, result: Shape) -> Option<String> {
+    let given = factor.value.shape();
+    let grown = (given != conformed).then(|| format!("first brought to {}", shape_words(conformed)));
+    let under = (conformed.flavor != result.flavor)
+        .then(|| format!("multiplied under the left one's flavor, {}", result.flavor));
+    let parts: Vec<String> = grown.into_iter().chain(under).collect();
+    (!parts.is_empty()).then(|| format!("{} ({}) is {}", factor.called, shape_words(given), parts.join(", and ")))
+}
+
+/// Words about the one blade whose sign turns by promotion: it is in falling order at 3 dimensions, and in rising order above.
+fn sign_turned(factor: &Factor, conformed: Shape) -> Option<String> {
+    let given = factor.value.shape();
+    let promoted = given == Shape::new(3, Flavor::Vanilla) && conformed.flavor == Flavor::Projective;
+    let turned = promoted && factor.value.get_blade(blades::TURNED.into()) != 0.0;
+    turned.then(|| {
+        format!(
+            "note: e31 of {} becomes e13 with the same number, so its sign turns, as in the workstation",
+            factor.called
+        )
+    })
 }
 
 /// Why no bound is guaranteed, where that lies in this factor.
 fn unbounded(called: &str, value: &Multivector) -> Option<String> {
     let place = outside(value.numbers())?;
     let (name, number) = (&blades::names(value.shape())[place], spelled(value.numbers()[place]));
-    Some(format!("no bound is guaranteed, since {called} has {number} at {name}: sizes must be 0 or from 2^-400 to 2^400"))
+    Some(format!(
+        "no bound is guaranteed, since {called} has {number} at {name}: sizes must be 0 or from 2^-400 to 2^400"
+    ))
 }
 
 fn is_exact(step: &Step) -> bool {
@@ -83,7 +130,11 @@ fn is_exact(step: &Step) -> bool {
 
 fn told(step: &Step) -> Vec<String> {
     let mut lines: Vec<String> = step.notes.iter().map(|note| format!("  {note}")).collect();
-    lines.push(format!("  {}; the result has {}:", counted(step.pairs as usize, "contributing pair"), shape_words(step.value.shape())));
+    lines.push(format!(
+        "  {}; the result has {}:",
+        counted(step.pairs as usize, "contributing pair"),
+        shape_words(step.value.shape())
+    ));
     lines.push(format!("  {}", step.value));
     lines.extend(turned_name(&step.value).map(|note| format!("  {note}")));
     lines.extend(listed(step));
@@ -95,8 +146,12 @@ fn told(step: &Step) -> Vec<String> {
 fn listed(step: &Step) -> Vec<String> {
     let (names, numbers) = (blades::names(step.value.shape()), step.value.numbers());
     let all = names.iter().zip(numbers).zip(&step.coefficients);
-    let (empty, full): (Vec<_>, Vec<_>) = all.partition(|((_, number), coefficient)| coefficient.empty && **number == 0.0);
-    let mut rows: Vec<[String; 3]> = full.iter().map(|((name, number), coefficient)| [name.to_string(), spelled(**number), near(coefficient)]).collect();
+    let (empty, full): (Vec<_>, Vec<_>) =
+        all.partition(|((_, number), coefficient)| coefficient.empty && **number == 0.0);
+    let mut rows: Vec<[String; 3]> = full
+        .iter()
+        .map(|((name, number), coefficient)| [name.to_string(), spelled(**number), near(coefficient)])
+        .collect();
     if let Some((_, coefficient)) = empty.first() {
         let who = if full.is_empty() { "all" } else { "the other" };
         rows.push([format!("{who} {}", empty.len()), "0".to_string(), near(coefficient)]);

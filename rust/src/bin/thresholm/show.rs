@@ -20,7 +20,8 @@ pub fn show(rig: &Path) -> Result<String, Stop> {
     let mut lines = vec![format!("# {}: {}", shown_path(rig), counts(&sheet))];
     for index in 0..sheet.len() {
         let told = sheet.value(index).and_then(|value| Ok((value, sheet.value_patterns(index)?.1)));
-        let (value, patterns) = told.map_err(|error| Stop::in_file(rig, format!("value {index}: refused with {}: {error}", error.number())))?;
+        let (value, patterns) = told
+            .map_err(|error| Stop::in_file(rig, format!("value {index}: refused with {}: {error}", error.number())))?;
         lines.push(String::new());
         lines.push(format!("value {index}: {}", shape_words(value.shape())));
         lines.push(format!("  # {}", squares(value.shape())));
@@ -41,7 +42,10 @@ pub fn shape_words(shape: Shape) -> String {
 fn squares(shape: Shape) -> String {
     let names = blades::names(shape);
     let part = |square: i8| {
-        let vectors: Vec<&str> = (0..shape.dims).filter(|index| shape.flavor.metric(*index) == square).map(|index| &*names[1 + usize::from(index)]).collect();
+        let vectors: Vec<&str> = (0..shape.dims)
+            .filter(|index| shape.flavor.metric(*index) == square)
+            .map(|index| &*names[1 + usize::from(index)])
+            .collect();
         match &vectors[..] {
             [] => None,
             [one] => Some(format!("{one} squares to {square}")),

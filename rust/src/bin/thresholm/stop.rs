@@ -3,10 +3,17 @@ use crate::help::Topic;
 use std::path::Path;
 use std::process::ExitCode;
 
+/// Text with its control characters escaped.
+pub fn on_one_line(text: &str) -> String {
+    let plain = |c: char| {
+        if c.is_control() { c.escape_debug().to_string() } else { c.to_string() }
+    };
+    text.chars().map(plain).collect()
+}
+
 /// A file's name on one line, whatever its bytes are.
 pub fn shown_path(file: &Path) -> String {
-    let plain = |c: char| if c.is_control() { c.escape_debug().to_string() } else { c.to_string() };
-    file.to_string_lossy().chars().map(plain).collect()
+    on_one_line(&file.to_string_lossy())
 }
 
 #[derive(Debug)]

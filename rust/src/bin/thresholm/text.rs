@@ -60,6 +60,19 @@ impl<'t> Piece<'t> {
         (Piece { text: &line.text[..end], ..line }, line.from(end).trimmed())
     }
 
+    /// The parts that stand between some characters; none of them is empty.
+    pub fn between(&self, marks: &[char]) -> Vec<Piece<'t>> {
+        let mut parts = Vec::new();
+        let mut rest = *self;
+        while let Some(start) = rest.text.find(|c| !marks.contains(&c)) {
+            rest = rest.from(start);
+            let end = rest.text.find(marks).unwrap_or(rest.text.len());
+            parts.push(Piece { text: &rest.text[..end], ..rest });
+            rest = rest.from(end);
+        }
+        parts
+    }
+
     /// The words of a part: spaces stand between them, and `=` is a word of its own.
     pub fn words(&self) -> Vec<Piece<'t>> {
         let mut words = Vec::new();
@@ -94,7 +107,10 @@ pub fn decoded(bytes: &[u8]) -> Result<&str, Fault> {
         let line = good.iter().filter(|b| **b == b'\n').count() + 1;
         let start = good.iter().rposition(|b| *b == b'\n').map_or(0, |at| at + 1);
         let column = String::from_utf8_lossy(&good[start..]).chars().count() + 1;
-        Fault { place: Place { line, column }, what: format!("the byte 0x{byte:02X} is no part of a text (save the file as UTF-8)") }
+        Fault {
+            place: Place { line, column },
+            what: format!("the byte 0x{byte:02X} is no part of a text (save the file as UTF-8)"),
+        }
     })
 }
 
@@ -109,7 +125,10 @@ mod tests {
 
     #[test]
     fn words_have_their_columns() {
-        assert_eq!(columns(" e12=1\te2 = -5 # e1 = 7"), [("e12", 2), ("=", 5), ("1", 6), ("e2", 8), ("=", 11), ("-5", 13)]);
+        assert_eq!(
+            columns(" e12=1\te2 = -5 # e1 = 7"),
+            [("e12", 2), ("=", 5), ("1", 6), ("e2", 8), ("=", 11), ("-5", 13)]
+        );
         assert_eq!(columns("é é\r"), [("é", 1), ("é", 3)]);
         assert_eq!(columns("  # nothing"), []);
         assert_eq!(columns("=="), [("=", 1), ("=", 2)]);
@@ -125,6 +144,8 @@ mod tests {
         assert_eq!((flavor.text, flavor.place.column), ("Cl 3 1", 15));
         let (last, none) = flavor.from(5).first_word();
         assert_eq!((last.text, none.text), ("1", ""));
+        let parts: Vec<_> = flavor.between(&[' ', 'l']).iter().map(|part| (part.text, part.place.column)).collect();
+        assert_eq!(parts, [("C", 15), ("3", 18), ("1", 20)]);
     }
 
     #[test]

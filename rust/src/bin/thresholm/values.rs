@@ -37,7 +37,10 @@ pub fn values_of(text: &str) -> Result<Vec<Value>, Fault> {
         let words = line.words();
         match (&mut draft, words.first()) {
             (Some(draft), _) => draft.words.extend(words),
-            (None, Some(first)) => return first.fault("a value starts with a line such as 'left microphone: 3 PGA', and its numbers follow it"),
+            (None, Some(first)) => {
+                return first
+                    .fault("a value starts with a line such as 'left microphone: 3 PGA', and its numbers follow it");
+            }
             (None, None) => {}
         }
     }
@@ -50,7 +53,8 @@ fn within_limits(name: Piece, values: usize, numbers: usize) -> Result<(), Fault
         return name.fault(format!("a rig sheet has at most {MAX_SHAPES} values; this is one more"));
     }
     if numbers > MAX_PATTERNS {
-        return name.fault(format!("a rig sheet has at most {MAX_PATTERNS} numbers; with this value there are {numbers}"));
+        return name
+            .fault(format!("a rig sheet has at most {MAX_PATTERNS} numbers; with this value there are {numbers}"));
     }
     Ok(())
 }
@@ -71,16 +75,30 @@ fn shape_of(rest: Piece) -> Result<Shape, Fault> {
             flavor = rest;
         }
     }
-    match flavor.text.parse::<Flavor>() {
-        Ok(flavor) => Ok(Shape::new(dims, flavor)),
-        Err(_) => flavor.fault(format!("this is no flavor: {} (write VGA, PGA, or Cl and one to three whole numbers such as Cl 3 0 1)", quoted(flavor.text))),
+    Ok(Shape::new(dims, flavor_of(flavor)?))
+}
+
+/// A flavor. The library takes a second or third word after Cl for 0 where it is no number; here it is a fault.
+fn flavor_of(piece: Piece) -> Result<Flavor, Fault> {
+    let Ok(flavor) = piece.text.parse() else {
+        let rule = "write VGA, PGA, or Cl and one to three whole numbers from 0 to 255, such as Cl 3 0 1";
+        return piece.fault(format!("this is no flavor: {} ({rule})", quoted(piece.text)));
+    };
+    let words = piece.between(&[' ', '\t', ',']);
+    match words.iter().skip(1).find(|word| word.text.parse::<u8>().is_err()) {
+        Some(word) => {
+            word.fault(format!("after Cl come p, n and z, whole numbers from 0 to 255: {}", quoted(word.text)))
+        }
+        None => Ok(flavor),
     }
 }
 
 /// A value with its numbers, which are all of one form.
 fn finished(draft: Draft) -> Result<Value, Fault> {
     let patterns = match draft.words.iter().any(|word| word.text == "=") {
-        _ if draft.words.is_empty() => draft.name.fault("this value has no numbers (a value of zeros is written 1 = 0)"),
+        _ if draft.words.is_empty() => {
+            draft.name.fault("this value has no numbers (a value of zeros is written 1 = 0)")
+        }
         true => by_blades(&draft),
         false => in_order(&draft),
     }?;
@@ -96,7 +114,8 @@ fn pattern(word: &Piece) -> Result<u64, Fault> {
 fn in_order(draft: &Draft) -> Result<Vec<u64>, Fault> {
     let patterns: Vec<u64> = draft.words.iter().map(pattern).collect::<Result<_, _>>()?;
     let (count, needed) = (patterns.len(), draft.shape.blade_count());
-    let rule = format!("a value of {} has {}", counted(draft.shape.dims.into(), "dimension"), counted(needed, "number"));
+    let rule =
+        format!("a value of {} has {}", counted(draft.shape.dims.into(), "dimension"), counted(needed, "number"));
     match draft.words.get(needed) {
         Some(extra) => extra.fault(format!("this number is too many: {rule}, and here are {count}")),
         None if count < needed => draft.name.fault(format!("{rule}, and here are {count}")),
@@ -115,13 +134,12 @@ fn by_blades(draft: &Draft) -> Result<Vec<u64>, Fault> {
         }
         let place = match blades::place_of(&names, blade.text) {
             Ok(place) => place,
-            Err(why) => return blade.fault(format!("there is no blade {}: {why}", quoted(blade.text))),
+            Err(why) => {
+                return blade.fault(format!("there is no blade {}: {why}", quoted(blade.text)));
+            }
         };
-        match words.next() {
-            Some(sign) if sign.text == "=" => {}
-            _ => return blade.fault(format!("after the blade {} come '=' and its number", quoted(blade.text))),
-        }
-        let Some(number) = words.next() else {
+        let sign = words.next().filter(|sign| sign.text == "=");
+        let Some(number) = sign.and_then(|_| words.next()) else {
             return blade.fault(format!("after the blade {} come '=' and its number", quoted(blade.text)));
         };
         if patterns[place].replace(pattern(number)?).is_some() {

@@ -104,7 +104,9 @@ impl Whole {
         let mut exponent = below.floor() as i32;
         loop {
             match self.scaled_up(unit, 2 - exponent).0[..] {
-                [digits @ 100..1000] => return format!("{}.{:02}e{exponent}", digits / 100, digits % 100),
+                [digits @ 100..1000] => {
+                    return format!("{}.{:02}e{exponent}", digits / 100, digits % 100);
+                }
                 [0..100] => exponent -= 1,
                 _ => exponent += 1,
             }
