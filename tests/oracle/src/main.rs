@@ -61,12 +61,12 @@ fn main() -> io::Result<()> {
     let args: Vec<String> = std::env::args().skip(1).collect();
     let words: Vec<&str> = args.iter().map(String::as_str).collect();
     let number = |i: usize, usual: u64| args.get(i).map_or(usual, |word| word.parse().unwrap_or_else(|_| misused()));
-    let (count, seed) = (number(1, 3_000), number(2, 2));
+    let (count, seed) = (|| number(1, 3_000), || number(2, 2));
     match words[..] {
-        ["compare", ..] => native::run::compare(count, seed),
+        ["compare", ..] => native::run::compare(count(), seed()),
         ["told-apart", ..] => native::told_apart(number(1, 2)),
-        ["exact", ..] => demand::check(count, seed),
-        ["display", ..] => display::check(count, seed),
+        ["exact", ..] => demand::check(count(), seed()),
+        ["display", ..] => display::check(count(), seed()),
         ["stored"] => write_stored(Wrong::None)?,
         ["wrong"] => write_stored(Wrong::Hundredth)?,
         ["wrong", "sheets"] => write_stored(Wrong::Sheets)?,
