@@ -10,12 +10,11 @@ use lib.ListN.{length}
 use borrow.Author.Tests.{eq-eqb, eqb-true, not-false}
 use Rattle.masks.specs.declared.flavor.Flavor.the-variants.{Vanilla}
 use Rattle.masks.specs.declared.shape.Shape.{Shape}
-use Rattle.masks.specs.Outcome.{refusal, tooMany, wrongCount, unless, shapeOf}
-use Rattle.masks.specs.Shapes.{nought}
+use Rattle.masks.specs.Outcome.{refusal, tooMany, wrongCount, unless, shapeOf, nought}
 use Rattle.masks.proofs.RefusalLaws.{past, unless-done}
 use Rattle.arithmetic.specs.declared.outcome.Ordering.the-variants.{Less}
 use Rattle.arithmetic.specs.Scalar.{allZero, isScalar, isPlanar, testOf, ifScalar}
-use Rattle.arithmetic.specs.Comparison.{comparedRefusal, answersAgree, refusedYesNo, equals, comparedNumbers, comparedPlaces, comparedCounts, comparedBy, compared}
+use Rattle.arithmetic.specs.Compare.{comparedRefusal, answersAgree, refusedYesNo, equals, comparedNumbers, comparedPlaces, comparedCounts, comparedBy, compared}
 use Rattle.arithmetic.proofs.ScalarLaws.{if-other}
 
 -- NaN is the one number that doesn't equal itself.

@@ -35,21 +35,21 @@ use Rattle.rounding.specs.Value.{signOf, sizeIn, Whole}
 use Rattle.masks.specs.declared.flavor.Flavor.{Flavor}
 use Rattle.masks.specs.declared.flavor.Flavor.the-variants.{Vanilla}
 use Rattle.masks.specs.declared.shape.Shape.{Shape}
-use Rattle.masks.specs.Flavors.{metricOf}
-use Rattle.masks.specs.Outcome.{value, shapeOf}
-use Rattle.masks.specs.Order.{grade, below, order, place, start, rank}
-use Rattle.masks.specs.Shapes.{nought, negatedIf}
+use Rattle.masks.specs.Flavor.{metricOf}
+use Rattle.masks.specs.Outcome.{value, shapeOf, nought}
+use Rattle.masks.specs.Order.{grade, gradesBelow, order, place, start, rank}
+use Rattle.masks.specs.Shape.{negatedIf}
 use Rattle.masks.specs.Build.{atGrade}
 use Rattle.masks.proofs.OrderLaws.{order-at, order-place, place-lt, grade-has, start-all, blades-le}
 use Rattle.masks.proofs.BuildLaws.{padded-at, padded-before, size-last}
 use Rattle.product.specs.declared.mode.Mode.the-variants.{All}
-use Rattle.product.specs.Modes.{takes, flavorFor, pairMetric}
+use Rattle.product.specs.Mode.{takes, flavorFor, pairMetric}
 use Rattle.product.specs.Pairwise.{maskAt, metricAt, placeAt}
 use Rattle.product.specs.Products.{Counted}
 use Rattle.product.specs.Whole.{whole}
 use Rattle.product.specs.Reverse.{reversed}
 use Rattle.product.specs.Accuracy as Accuracy
-use Rattle.product.specs.Accuracy.{Fitting, Holds, Multiples, ExactCase, IsExactly, EqualNumbers, valueIn, sizeAt, valueAt, contributes, exactSizes, exactSum}
+use Rattle.product.specs.Accuracy.{Fitting, Holds, Multiples, ExactCase, IsExactly, EqualNumbers, valueIn, exactSizeAt, exactValueAt, contributes, exactSizes, exactSum}
 use Rattle.product.proofs.MetricSigns.{metric-unital}
 use Rattle.product.proofs.PairsTotal.{total-pick}
 use Rattle.product.proofs.MultipliedLaws.{multiplied-same}
@@ -57,9 +57,9 @@ use Rattle.product.proofs.ExactLaws.{exact-sum-whole}
 use Rattle.product.proofs.GroupingLaws.{times-holds, times-exact}
 use Rattle.product.proofs.ScaleLaws.{whole-ext, equal-numbers}
 use Rattle.product.proofs.ReversedLaws.{whole-negated, value-negated, reversed-size, reversed-sizes}
-use Rattle.arithmetic.specs.Kept.{unit}
-use Rattle.arithmetic.specs.Duals.{ample, pseudoUnit, dualOf, dual, antidualOf, antidual}
-use Rattle.arithmetic.proofs.KeptLaws.{Fits, kept-value}
+use Rattle.arithmetic.specs.Scale.{unity}
+use Rattle.arithmetic.specs.Dual.{ample, pseudoUnit, dualOf, dual, antidualOf, antidual}
+use Rattle.arithmetic.proofs.KeptLaws.{KeptFits, kept-value}
 use Rattle.arithmetic.proofs.RegressiveLaws.{unit-length, dual-length}
 use Rattle.arithmetic.proofs.TimesLaws.{star-exact}
 
@@ -250,37 +250,37 @@ module _ (d : ℕ) where
   abbrev I : List Float
   I = pseudoUnit d
 
-  unit-at : (i : ℕ) → i < 2 ^ d → getD I i nan ≡ cond (eqb (last d) i) unit nought
+  unit-at : (i : ℕ) → i < 2 ^ d → getD I i nan ≡ cond (eqb (last d) i) unity nought
   unfolding atGrade start
   unit-at i h =
       elim (ℕ-discrete (last d) i) [
-        | yes e ↦ rw (eq-eqb (last d) i e) (padded-at (start d d) (unit ∷ []) (2 ^ d) i 0 (omega (arith, last-start)) (omega arith))
-        | no e ↦ rw (ne-eqb (last d) i e) (padded-before (start d d) (unit ∷ []) (2 ^ d) i (omega (arith, last-start, start-all d, size-last d)))
+        | yes e ↦ rw (eq-eqb (last d) i e) (padded-at (start d d) (unity ∷ []) (2 ^ d) i 0 (omega (arith, last-start)) (omega arith))
+        | no e ↦ rw (ne-eqb (last d) i e) (padded-before (start d d) (unity ∷ []) (2 ^ d) i (omega (arith, last-start, start-all d, size-last d)))
       ]
 
-  unit-value : (i : ℕ) → i < 2 ^ d → valueAt 0 I i ≡ δ (last d) i
+  unit-value : (i : ℕ) → i < 2 ^ d → exactValueAt 0 I i ≡ δ (last d) i
   unfolding valueIn δ
   unit-value i h = ap (valueIn 0) (unit-at i h) ∙ go (eqb (last d) i)
     where
-      go : (b : Bool) → valueIn 0 (cond b unit nought) ≡ cond b (pos 1) (pos 0)
+      go : (b : Bool) → valueIn 0 (cond b unity nought) ≡ cond b (pos 1) (pos 0)
       go true = refl
       go false = refl
 
-  unit-size : (i : ℕ) → i < 2 ^ d → sizeAt 0 I i ≡ cond (eqb (last d) i) 1 0
+  unit-size : (i : ℕ) → i < 2 ^ d → exactSizeAt 0 I i ≡ cond (eqb (last d) i) 1 0
   unit-size i h = ap (sizeIn 0) (unit-at i h) ∙ go (eqb (last d) i)
     where
-      go : (b : Bool) → sizeIn 0 (cond b unit nought) ≡ cond b 1 0
+      go : (b : Bool) → sizeIn 0 (cond b unity nought) ≡ cond b 1 0
       go true = refl
       go false = refl
 
   unit-holds : Holds d I
   unfolding fits
-  unit-holds = record { many = unit-length d; held = λ i h. rw (unit-at i h) (cond-fits binary64 (eqb (last d) i) unit nought tt tt) }
+  unit-holds = record { many = unit-length d; held = λ i h. rw (unit-at i h) (cond-fits binary64 (eqb (last d) i) unity nought tt tt) }
 
   unit-multiples : Multiples 0 d I
   unit-multiples i h = rw (unit-at i h) (go (eqb (last d) i))
     where
-      go : (b : Bool) → Whole 0 (cond b unit nought)
+      go : (b : Bool) → Whole 0 (cond b unity nought)
       go true = (refl, refl)
       go false = (refl, refl)
 
@@ -304,14 +304,14 @@ cond-zero true n e = e
 cond-zero false n e = refl
 
 -- The right factor u has the pseudo unit's sizes: one pair of places has a size that is not 0.
-module _ (d k : ℕ) (h : k < 2 ^ d) (p B : ℕ) (a u : List Float) (sized : (i : ℕ) → i < 2 ^ d → sizeAt p a i ≤ B) (unital : (i : ℕ) → i < 2 ^ d → sizeAt 0 u i ≡ cond (eqb (last d) i) 1 0) where
+module _ (d k : ℕ) (h : k < 2 ^ d) (p B : ℕ) (a u : List Float) (sized : (i : ℕ) → i < 2 ^ d → exactSizeAt p a i ≤ B) (unital : (i : ℕ) → i < 2 ^ d → exactSizeAt 0 u i ≡ cond (eqb (last d) i) 1 0) where
   pair : ℕ → ℕ → ℕ
-  pair i j = cond (contributes All Vanilla d k i j) (sizeAt p a i * sizeAt 0 u j) 0
+  pair i j = cond (contributes All Vanilla d k i j) (exactSizeAt p a i * exactSizeAt 0 u j) 0
 
   pair-right : (i j : ℕ) → i < 2 ^ d → j < 2 ^ d → j ≢ last d → pair i j ≡ 0
   unfolding pair
   pair-right i j hi hj q =
-      cond-zero (contributes All Vanilla d k i j) _ (rw (unital j hj, ne-eqb (last d) j (λ e. q (sym e)), mul-zero (sizeAt p a i)))
+      cond-zero (contributes All Vanilla d k i j) _ (rw (unital j hj, ne-eqb (last d) j (λ e. q (sym e)), mul-zero (exactSizeAt p a i)))
 
   pair-left : (i j : ℕ) → i < 2 ^ d → j < 2 ^ d → i ≢ other d k → pair i j ≡ 0
   unfolding pair contributes placeAt
@@ -324,10 +324,10 @@ module _ (d k : ℕ) (h : k < 2 ^ d) (p B : ℕ) (a u : List Float) (sized : (i 
   sizes-le : exactSizes All Vanilla d k p 0 a u ≤ B
   unfolding exactSizes pair
   sizes-le =
-      rw (pairs-only (2 ^ d) (other d k) (last d) pair (other-low d k h) (last-low d) pair-left pair-right, unital (last d) (last-low d), eq-eqb (last d) (last d) refl, mul-one (sizeAt p a (other d k)))
+      rw (pairs-only (2 ^ d) (other d k) (last d) pair (other-low d k h) (last-low d) pair-left pair-right, unital (last d) (last-low d), eq-eqb (last d) (last d) refl, mul-one (exactSizeAt p a (other d k)))
       (go (contributes All Vanilla d k (other d k) (last d)))
     where
-      go : (b : Bool) → cond b (sizeAt p a (other d k)) 0 ≤ B
+      go : (b : Bool) → cond b (exactSizeAt p a (other d k)) 0 ≤ B
       go true = sized (other d k) (other-low d k h)
       go false = omega arith
 
@@ -366,7 +366,7 @@ sign-value t z =
       | no e ↦ rw (sign-even t (omega (arith, mod-lt t (zero-lt-suc 1))), ne-eqb (t % 2) 1 e) (one-mul z)
     ]
 
-module _ (d : ℕ) (a : List Float) (p : ℕ) (small : d ≤ 9) (h : Holds d a) (m : Multiples p d a) (l : p ≤ 46) (n : (i : ℕ) → i < 2 ^ d → sizeAt p a i ≤ 2 ^ 53) where
+module _ (d : ℕ) (a : List Float) (p : ℕ) (small : d ≤ 9) (h : Holds d a) (m : Multiples p d a) (l : p ≤ 46) (n : (i : ℕ) → i < 2 ^ d → exactSizeAt p a i ≤ 2 ^ 53) where
   abbrev v : Shape
   v = shapeOf d Vanilla
 
@@ -395,16 +395,16 @@ module _ (d : ℕ) (a : List Float) (p : ℕ) (small : d ≤ 9) (h : Holds d a) 
   dual-holds : Holds d x
   dual-holds = rw dual-is (times-holds v ample fitting a (I d) h (unit-holds d))
 
-  dual-exact : (k : ℕ) → k < 2 ^ d → IsExactly p (getD x k nan) (whole Vanilla d (valueAt p a) (δ (last d)) k)
+  dual-exact : (k : ℕ) → k < 2 ^ d → IsExactly p (getD x k nan) (whole Vanilla d (exactValueAt p a) (δ (last d)) k)
   unfolding first
   dual-exact k i =
-      rw (dual-is, ← whole-ext Vanilla d (valueAt p a) (valueAt 0 (I d)) k (valueAt p a) (δ (last d)) (λ j _. refl) (unit-value d))
+      rw (dual-is, ← whole-ext Vanilla d (exactValueAt p a) (exactValueAt 0 (I d)) k (exactValueAt p a) (δ (last d)) (λ j _. refl) (unit-value d))
       (rw (add-zero p) at (times-exact v ample fitting a (I d) h (unit-holds d) first p 0 (le-refl p) (le-refl 0) k i))
 
-  dual-size : (k : ℕ) → k < 2 ^ d → sizeAt p x k ≤ 2 ^ 53
+  dual-size : (k : ℕ) → k < 2 ^ d → exactSizeAt p x k ≤ 2 ^ 53
   dual-size k i =
-      rw (size-value p (getD x k nan), dual-exact k i .1, times-unit d (valueAt p a) k i)
-      (le-trans (metric-le d (rest d (maskAt d k)) (full d) (valueAt p a (other d k))) (rw (← size-value p (getD a (other d k) nan)) (n (other d k) (other-low d k i))))
+      rw (size-value p (getD x k nan), dual-exact k i .1, times-unit d (exactValueAt p a) k i)
+      (le-trans (metric-le d (rest d (maskAt d k)) (full d) (exactValueAt p a (other d k))) (rw (← size-value p (getD a (other d k) nan)) (n (other d k) (other-low d k i))))
 
   -- The exact case of the product that `antidual` is: the sizes are those of the factors exchanged.
   second : ExactCase All Vanilla d (I d) x
@@ -419,27 +419,27 @@ module _ (d : ℕ) (a : List Float) (p : ℕ) (small : d ≤ 9) (h : Holds d a) 
             (sizes-le d k i p (2 ^ 53) (reversed d x) (reversed d (I d)) (λ j b. rw (reversed-size d x p j b) (dual-size j b)) (λ j b. reversed-size d (I d) 0 j b ∙ unit-size d j b));
       }
 
-  back-exact : (k : ℕ) → k < 2 ^ d → IsExactly p (getD (antidualOf d x) k nan) (sign (turnsBack d (ones (maskAt d k))) *ℤ valueAt p a k)
+  back-exact : (k : ℕ) → k < 2 ^ d → IsExactly p (getD (antidualOf d x) k nan) (sign (turnsBack d (ones (maskAt d k))) *ℤ exactValueAt p a k)
   unfolding second antidualOf
   back-exact k i =
-      let e : exactSum All Vanilla d k 0 p (I d) x ≡ sign (turnsBack d (ones (maskAt d k))) *ℤ valueAt p a k =
+      let e : exactSum All Vanilla d k 0 p (I d) x ≡ sign (turnsBack d (ones (maskAt d k))) *ℤ exactValueAt p a k =
       exact-sum-whole Vanilla d k 0 p (I d) x i
-      ∙ whole-ext Vanilla d (valueAt 0 (I d)) (valueAt p x) k (δ (last d)) (whole Vanilla d (valueAt p a) (δ (last d))) (unit-value d) (λ j b. dual-exact j b .1)
-      ∙ unit-around d (valueAt p a) k i in
+      ∙ whole-ext Vanilla d (exactValueAt 0 (I d)) (exactValueAt p x) k (δ (last d)) (whole Vanilla d (exactValueAt p a) (δ (last d))) (unit-value d) (λ j b. dual-exact j b .1)
+      ∙ unit-around d (exactValueAt p a) k i in
       rw (← e) (rw (zero-add p) at (star-exact v ample fitting (I d) x (unit-holds d) dual-holds second k i))
 
 -- On the grid, as numbers: for finite multiples of 2 ^ -p of at most 2 ^ 53 units, p at most 46.
 pub dual-antidual : (s : Shape) (a : List Float) (room p : ℕ) → Fitting s room → Holds (s .dims) a → Multiples p (s .dims) a → p ≤ 46
-    → ((i : ℕ) → i < 2 ^ s .dims → sizeAt p a i ≤ 2 ^ 53) → (k : ℕ) → k < 2 ^ s .dims
+    → ((i : ℕ) → i < 2 ^ s .dims → exactSizeAt p a i ≤ 2 ^ 53) → (k : ℕ) → k < 2 ^ s .dims
     → T (eq (getD (antidual s (dual s a room .coefs) room .coefs) k nan) (negatedIf (eqb (turnsBack (s .dims) (ones (maskAt (s .dims) k)) % 2) 1) (getD a k nan)))
 dual-antidual s a room p f h m l n k i =
     let d = s .dims in
     let t = turnsBack d (ones (maskAt d k)) in
     let b = eqb (t % 2) 1 in
-    let fits : (xs : List Float) → length xs ≡ 2 ^ d → Fits s xs room = λ xs c. record { small = f .small; counted = c; roomy = f .roomy } in
+    let fits : (xs : List Float) → length xs ≡ 2 ^ d → KeptFits s xs room = λ xs c. record { small = f .small; counted = c; roomy = f .roomy } in
     let e = back-exact d a p (f .small) h m l n k i in
     rw (kept-value (dualOf d) s a room (fits a (h .many)), kept-value (antidualOf d) s (dualOf d a) room (fits (dualOf d a) (dual-length d a)))
-    (equal-numbers p _ _ (e .0) (whole-negated b p (getD a k nan) (m k i)) (e .1 ∙ sign-value t (valueAt p a k) ∙ sym (value-negated b p (getD a k nan))))
+    (equal-numbers p _ _ (e .0) (whole-negated b p (getD a k nan) (m k i)) (e .1 ∙ sign-value t (exactValueAt p a k) ∙ sym (value-negated b p (getD a k nan))))
 
 -- ---- an example of two dimensions, whatever the flavor
 
@@ -460,11 +460,11 @@ four P a b c d (suc (suc (suc (suc k)))) h = absurd (omega arith)
 
 -- Grades 0 and 2 are negated.
 there-and-back : (f : Flavor) → EqualNumbers 2 (antidual (shapeOf 2 f) (dual (shapeOf 2 f) given 4 .coefs) 4 .coefs) back
-unfolding given back fits neg order below grade ones onesIn
+unfolding given back fits neg order gradesBelow grade ones onesIn
 there-and-back f k h =
     subst (λ (y : Float). T (eq (getD (antidual (shapeOf 2 f) (dual (shapeOf 2 f) given 4 .coefs) 4 .coefs) k nan) y))
     (four (λ (k : ℕ). negatedIf (eqb (turnsBack 2 (ones (maskAt 2 k)) % 2) 1) (getD given k nan) ≡ getD back k nan) refl refl refl refl k h)
     (dual-antidual (shapeOf 2 f) given 4 2 (record { small = lit≤ tt; roomy = lit≤ tt })
     (record { many = refl; held = four (λ (k : ℕ). T (fits binary64 (getD given k nan))) tt tt tt tt })
     (four (λ (k : ℕ). Whole 2 (getD given k nan)) (refl, refl) (refl, refl) (refl, refl) (refl, refl)) (lit≤ tt)
-    (four (λ (k : ℕ). sizeAt 2 given k ≤ 2 ^ 53) (lit≤ tt) (lit≤ tt) (lit≤ tt) (lit≤ tt)) k h)
+    (four (λ (k : ℕ). exactSizeAt 2 given k ≤ 2 ^ 53) (lit≤ tt) (lit≤ tt) (lit≤ tt) (lit≤ tt)) k h)

@@ -13,8 +13,8 @@ use lib.Pow.{pow-pos}
 use Rattle.masks.specs.declared.flavor.Flavor.the-variants.{Vanilla, Projective}
 use Rattle.masks.specs.declared.shape.Shape.{Shape}
 use Rattle.masks.specs.declared.outcome.Answer.{Answer}
-use Rattle.masks.specs.Outcome.{Test, Outcome, Gives, refusal, tooMany, wrongCount, noRoom, unless, value, refusedValue, shapeOf, answerOf, laid}
-use Rattle.masks.specs.Shapes.{nought, setDims, promotes}
+use Rattle.masks.specs.Outcome.{Test, Outcome, Gives, refusal, tooMany, wrongCount, noRoom, unless, value, refusedValue, shapeOf, answerOf, laid, nought}
+use Rattle.masks.specs.Shape.{setDims, promotes}
 use Rattle.masks.proofs.Computed.{both}
 use Rattle.masks.proofs.ListLaws.{take-laid}
 use Rattle.masks.proofs.RefusalLaws.{past, later-same, refused-already, refused-later, unless-refused, unless-done, gives-refused, gives-done}
@@ -23,10 +23,12 @@ use Rattle.arithmetic.specs.declared.scalar.Complex.{Complex}
 use Rattle.arithmetic.specs.declared.scalar.ScalarTest.{ScalarTest}
 use Rattle.arithmetic.specs.declared.scalar.ScalarTest.the-variants.{Scalar, Planar, Neither}
 use Rattle.arithmetic.specs.Scalar.{isScalar, isPlanar, testOf, ifScalar, wasPlanar, noInverse}
-use Rattle.arithmetic.specs.Kept.{keptRefusal, kept, scaled, reciprocal, divF64}
-use Rattle.arithmetic.specs.Operators.{pairTests, isOther, resultDims, operatorRefusal, multiply}
-use Rattle.arithmetic.specs.Inverse.{squared, lessScalar, bySquare, nanified, generalInverse, inverseBy, inverseOf, inverse, divisorBy, quotientDims, quotient}
-use Rattle.arithmetic.proofs.KeptLaws.{Fits, fits, passes, copy-laid, copy-done, laid-again, scaled-length}
+use Rattle.arithmetic.specs.Kept.{keptRefusal, kept}
+use Rattle.arithmetic.specs.Scale.{scaled, reciprocal, divF64}
+use Rattle.arithmetic.specs.Operators.{pairTests, isOther, resultDims, operatorRefusal, multiplication}
+use Rattle.arithmetic.specs.Inverse.{squared, lessScalar, bySquare, nanified, generalInverse, inverseBy, inverseOf, inverse}
+use Rattle.arithmetic.specs.Quotient.{divisorBy, quotientDims, quotient}
+use Rattle.arithmetic.proofs.KeptLaws.{KeptFits, fits, passes, copy-laid, copy-done, laid-again, scaled-length}
 use Rattle.arithmetic.proofs.ScalarLaws.{test-scalar, IsPlanar, planar-is, is-planar}
 use Rattle.arithmetic.proofs.OperatorLaws.{dims-by-scalar, multiply-number}
 
@@ -143,14 +145,14 @@ module _ (s : Shape) (a : List Float) (room : ℕ) where
   abbrev keptTests : List Test
   keptTests = tooMany (s .dims) ∷ wrongCount (length a) (s .dims) ∷ noRoom room (2 ^ s .dims) ∷ []
 
-  pub inverse-five : inverse s a room .number ≡ 5 → Fits s a room × IsPlanar s a
+  pub inverse-five : inverse s a room .number ≡ 5 → KeptFits s a room × IsPlanar s a
   unfolding inverse
   inverse-five e =
       let p = five-last keptTests tt (wasPlanar (testOf s a)) (unless-five _ (value s (inverseOf s a)) (λ q. omega arith) e) in
       let f = fits s a room (p .0) in
       (f, planar-is s a (f .counted) (p .1))
 
-  pub five-inverse : Fits s a room → IsPlanar s a → inverse s a room .number ≡ 5
+  pub five-inverse : KeptFits s a room → IsPlanar s a → inverse s a room .number ≡ 5
   unfolding inverse
   five-inverse f p =
       five-unless _ _ (last-five keptTests tt (wasPlanar (testOf s a)) (passes s a room f) (is-planar s a (f .counted) p))
@@ -237,7 +239,7 @@ module _ (s t : Shape) (a b : List Float) (room : ℕ) (l : length b ≡ 2 ^ t .
   abbrev numberBy : ScalarTest → ℕ
   numberBy u = refusal (pairTests s t (ifScalar u (λ f. s .dims) (resultDims s t (divisorBy u t b))) a b room ++ noInverse u ∷ [])
 
-  quotient-by : (u : ScalarTest) → testOf t b ≡ u → quotient s t a b room ≡ unless refusedValue (numberBy u) (ifScalar u (λ f. value s (scaled (reciprocal f) a)) (multiply s t a (inverseBy u t b) room))
+  quotient-by : (u : ScalarTest) → testOf t b ≡ u → quotient s t a b room ≡ unless refusedValue (numberBy u) (ifScalar u (λ f. value s (scaled (reciprocal f) a)) (multiplication s t a (inverseBy u t b) room))
   unfolding quotient
   quotient-by u e = rw (quotient-dims s t b l, e)
 
@@ -256,27 +258,27 @@ module _ (s t : Shape) (a b : List Float) (room : ℕ) (l : length b ≡ 2 ^ t .
       (gives-refused _ n _ r out k (λ z. ends-refused (pairTests s t (resultDims s t b) a b room) tt (sym k ∙ z)) q)
 
   -- What refuses the quotient is what refuses the product with the inverse.
-  multiplied-again : unless refusedValue (numberBy Neither) (multiply s t a (generalInverse t b) room) ≡ multiply s t a (generalInverse t b) room
-  unfolding ifScalar wasPlanar divisorBy refusal multiply operatorRefusal
+  multiplied-again : unless refusedValue (numberBy Neither) (multiplication s t a (generalInverse t b) room) ≡ multiplication s t a (generalInverse t b) room
+  unfolding ifScalar wasPlanar divisorBy refusal multiplication operatorRefusal
   multiplied-again =
       let n = resultDims s t (generalInverse t b) in
       unless-twice (operatorRefusal s t a (generalInverse t b) room) (numberBy Neither) _
       (ap (λ (k : ℕ). refusal (countTests (s .dims) (t .dims) n (length a) k room)) (l ∙ sym (general-length t b l)))
 
-  pub quotient-by-other : testOf t b ≡ Neither → quotient s t a b room ≡ multiply s t a (inverseOf t b) room
+  pub quotient-by-other : testOf t b ≡ Neither → quotient s t a b room ≡ multiplication s t a (inverseOf t b) room
   unfolding ifScalar inverseBy
   quotient-by-other e =
-      quotient-by Neither e ∙ multiplied-again ∙ ap (λ (u : ScalarTest). multiply s t a (inverseBy u t b) room) (sym e)
+      quotient-by Neither e ∙ multiplied-again ∙ ap (λ (u : ScalarTest). multiplication s t a (inverseBy u t b) room) (sym e)
 
 -- ---- refusal 5 of a quotient, exactly
 
 module _ (s t : Shape) (a b : List Float) (room : ℕ) where
   -- What is divided is not refused 5 later.
-  not-five-product : (xs : List Float) → multiply s t a xs room .number ≡ 5 → ⊥
+  not-five-product : (xs : List Float) → multiplication s t a xs room .number ≡ 5 → ⊥
   unfolding operatorRefusal
   not-five-product xs e = never-five (pairTests s t (resultDims s t xs) a xs room) tt (sym (multiply-number s t a xs room) ∙ e)
 
-  not-five : (u : ScalarTest) → ifScalar u (λ f. value s (scaled (reciprocal f) a)) (multiply s t a (inverseBy u t b) room) .number ≡ 5 → ⊥
+  not-five : (u : ScalarTest) → ifScalar u (λ f. value s (scaled (reciprocal f) a)) (multiplication s t a (inverseBy u t b) room) .number ≡ 5 → ⊥
   unfolding ifScalar
   not-five (Scalar f) e = omega arith
   not-five (Planar c) e = not-five-product _ e
@@ -298,7 +300,7 @@ module _ (s t : Shape) (a b : List Float) (room : ℕ) where
 
 -- ---- division by a scalar conforms nothing
 
-module _ (s t : Shape) (a b : List Float) (room : ℕ) (f : Fits s a room) (h : t .dims ≤ 9) (l : length b ≡ 2 ^ t .dims) (e : isScalar b ≡ true) where
+module _ (s t : Shape) (a b : List Float) (room : ℕ) (f : KeptFits s a room) (h : t .dims ≤ 9) (l : length b ≡ 2 ^ t .dims) (e : isScalar b ≡ true) where
   pub quotient-by-scalar-done : quotient s t a b room ≡ value s (scaled (reciprocal (getD b 0 nan)) a)
   unfolding kept
   quotient-by-scalar-done =
@@ -307,11 +309,11 @@ module _ (s t : Shape) (a b : List Float) (room : ℕ) (f : Fits s a room) (h : 
 
 -- A Vanilla value of 9 dimensions over a Projective scalar is done, where `*` by it is refused 1.
 module _ (d : ℕ) (a b : List Float) (room : ℕ) (h : d ≤ 9) (e : isScalar b ≡ true) where
-  pub nine-by-projective : Fits (shapeOf 9 Vanilla) a room → length b ≡ 2 ^ d → quotient (shapeOf 9 Vanilla) (shapeOf d Projective) a b room .number ≡ 0
+  pub nine-by-projective : KeptFits (shapeOf 9 Vanilla) a room → length b ≡ 2 ^ d → quotient (shapeOf 9 Vanilla) (shapeOf d Projective) a b room .number ≡ 0
   nine-by-projective f l =
       ap (λ (o : Outcome). o .number) (quotient-by-scalar-done (shapeOf 9 Vanilla) (shapeOf d Projective) a b room f h l e)
 
-  pub nine-times-projective : multiply (shapeOf 9 Vanilla) (shapeOf d Projective) a b room .number ≡ 1
+  pub nine-times-projective : multiplication (shapeOf 9 Vanilla) (shapeOf d Projective) a b room .number ≡ 1
   unfolding operatorRefusal refusal promotes
   nine-times-projective =
       let l : d ≤ 10 = omega arith in
@@ -321,7 +323,7 @@ module _ (d : ℕ) (a b : List Float) (room : ℕ) (h : d ≤ 9) (e : isScalar b
 -- ---- copies
 
 -- A value set to its own dimensions, where it fits, is a copy at the front of the output.
-pub copy-whole : (s : Shape) (a : List Float) (r : Answer) (before mid : List Float) → Gives (setDims s (s .dims) a (length before)) r before mid → Fits s a (length before) → mid ≡ laid a before
+pub copy-whole : (s : Shape) (a : List Float) (r : Answer) (before mid : List Float) → Gives (setDims s (s .dims) a (length before)) r before mid → KeptFits s a (length before) → mid ≡ laid a before
 copy-whole s a r before mid g f = copy-laid s a r before mid g (copy-done s a r before mid g f)
 
 -- What lies at the front is changed where it lies.

@@ -11,18 +11,19 @@ use lib.ListN.{length, getD, set, take, drop, replicate, length-map, length-appe
 use lib.Seq.{drop-at, length-take-le, set-append-left}
 use Rattle.masks.specs.declared.shape.Shape.{Shape}
 use Rattle.masks.specs.declared.outcome.Answer.{Answer}
-use Rattle.masks.specs.Outcome.{Outcome, Gives, laid, refusal, tooMany, unless, value, refusedValue}
-use Rattle.masks.specs.Shapes.{setDims, nought}
+use Rattle.masks.specs.Outcome.{Outcome, Gives, laid, refusal, tooMany, unless, value, refusedValue, nought}
+use Rattle.masks.specs.Shape.{setDims}
 use Rattle.masks.proofs.ListLaws.{take-laid, front, front-length, front-step, front-all}
 use Rattle.masks.proofs.RefusalLaws.{taken, later-same, refused-later, unless-done, gives-done}
 use Rattle.masks.proofs.ShapeLaws.{resized-same, part-length, part-at}
 use Rattle.masks.proofs.ChangeLaws.{checks, not-refused}
 use Rattle.product.proofs.PlacesLaws.{front-next}
 use Rattle.arithmetic.specs.declared.outcome.Taken.{Taken}
-use Rattle.arithmetic.specs.Kept.{keptRefusal, kept, unit, scaled, scalarOnly, Halves, GivesTaken}
+use Rattle.arithmetic.specs.Kept.{keptRefusal, kept, scalarOnly, Halves, GivesTaken}
+use Rattle.arithmetic.specs.Scale.{unity, scaled}
 
 -- What a call may rest on where it is not refused.
-pub record Fits (s : Shape) (a : List Float) (room : ℕ) : Type 0 where
+pub record KeptFits (s : Shape) (a : List Float) (room : ℕ) : Type 0 where
   pub small : s .dims ≤ 9
   pub counted : length a ≡ 2 ^ s .dims
   pub roomy : 2 ^ s .dims ≤ room
@@ -49,12 +50,12 @@ module _ (s : Shape) (a : List Float) (room : ℕ) where
   pub kept-tests : refusal (checks (s .dims) (s .dims) (length a) room (2 ^ s .dims)) ≡ keptRefusal s a room
   kept-tests = later-same (s .dims) _ _ (λ l. refused-later (tooMany (s .dims)) _ (le-ltb 9 (s .dims) l))
 
-  pub fits : keptRefusal s a room ≡ 0 → Fits s a room
+  pub fits : keptRefusal s a room ≡ 0 → KeptFits s a room
   fits z =
       let t = taken (s .dims) (s .dims) (length a) room (2 ^ s .dims) (kept-tests ∙ z) in
       record { small = t .small; counted = t .counted; roomy = t .roomy }
 
-  pub passes : Fits s a room → keptRefusal s a room ≡ 0
+  pub passes : KeptFits s a room → keptRefusal s a room ≡ 0
   unfolding refusal
   passes f = simp (le-ltb 9 (s .dims) (f .small), eq-eqb (length a) (2 ^ s .dims) (f .counted), le-ltb room (2 ^ s .dims) (f .roomy))
 
@@ -66,7 +67,7 @@ module _ (s : Shape) (a : List Float) (room : ℕ) where
       (λ z. let f = fits z in ap (value s) (resized-same (s .dims) a (f .small) (f .counted)))
 
 -- The call is done where the value fits.
-pub kept-value : (g : List Float → List Float) (s : Shape) (a : List Float) (room : ℕ) → Fits s a room → kept g s a room ≡ value s (g a)
+pub kept-value : (g : List Float → List Float) (s : Shape) (a : List Float) (room : ℕ) → KeptFits s a room → kept g s a room ≡ value s (g a)
 unfolding kept
 kept-value g s a room f = unless-done refusedValue (keptRefusal s a room) 0 _ (sym (passes s a room f)) refl
 
@@ -87,7 +88,7 @@ module _ (s : Shape) (a : List Float) (r : Answer) (before mid : List Float) (g 
   unfolding kept
   copy-refused f h = refused-same _ (value s a) (value s (f a)) r before mid refl h own
 
-  pub copy-fits : r .number ≡ 0 → Fits s a (length before)
+  pub copy-fits : r .number ≡ 0 → KeptFits s a (length before)
   copy-fits z = fits s a (length before) (accepted z)
 
   -- A copy that is done is at the front of the output.
@@ -98,7 +99,7 @@ module _ (s : Shape) (a : List Float) (r : Answer) (before mid : List Float) (g 
   copy-room z = rw (copy-laid z) (omega (arith, length-append a (drop (length a) before)))
 
   -- It is done where the value fits.
-  pub copy-done : Fits s a (length before) → r .number ≡ 0
+  pub copy-done : KeptFits s a (length before) → r .number ≡ 0
   unfolding kept
   copy-done f =
       ap (λ (x : Answer). x .number) (own .answered)
@@ -151,7 +152,7 @@ module _ (f : Float → Float) (n : ℕ) (out : List Float) (h : n ≤ length ou
 
 pub scaled-length : (f : Float) (a : List Float) → length (scaled f a) ≡ length a
 unfolding scaled
-scaled-length f a = go (eq f unit)
+scaled-length f a = go (eq f unity)
   where
     go : (b : Bool) → length (cond b a (map (λ x. mul binary64 x f) a)) ≡ length a
     go true = refl

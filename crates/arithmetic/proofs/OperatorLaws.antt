@@ -14,7 +14,7 @@ use Rattle.masks.specs.declared.flavor.Flavor.the-variants.{Vanilla, Projective
 use Rattle.masks.specs.declared.shape.Shape.{Shape}
 use Rattle.masks.specs.declared.outcome.Answer.{Answer}
 use Rattle.masks.specs.Outcome.{Outcome, Gives, refusal, unless, value, refusedValue, refusedPair, laid}
-use Rattle.masks.specs.Shapes.{promotes, conformed, conformedShape, conformTo, conform}
+use Rattle.masks.specs.Shape.{promotes, conformed, conformedShape, conformTo, conform}
 use Rattle.masks.proofs.ListLaws.{take-laid}
 use Rattle.masks.proofs.RefusalLaws.{taken, unless-done, unless-refused}
 use Rattle.masks.proofs.ChangeLaws.{Passed, passed, pairChecks, checks, passes, pairTests, second-room, conformed-none, not-refused}
@@ -30,9 +30,9 @@ use Rattle.arithmetic.specs.declared.operators.Sum.{Sum}
 use Rattle.arithmetic.specs.declared.scalar.ScalarTest.{ScalarTest}
 use Rattle.arithmetic.specs.declared.scalar.ScalarTest.the-variants.{Scalar, Planar, Neither}
 use Rattle.arithmetic.specs.Scalar.{isScalar, testOf, ifScalar}
-use Rattle.arithmetic.specs.Kept.{scaled}
-use Rattle.arithmetic.specs.Operators.{isOther, resultDims, operatorRefusal, withCoefs, multiply, summedEach}
-use Rattle.arithmetic.proofs.KeptLaws.{Fits, laid-again, scaled-length}
+use Rattle.arithmetic.specs.Scale.{scaled}
+use Rattle.arithmetic.specs.Operators.{isOther, resultDims, operatorRefusal, withCoefs, multiplication, summedEach}
+use Rattle.arithmetic.proofs.KeptLaws.{KeptFits, laid-again, scaled-length}
 use Rattle.arithmetic.proofs.ScalarLaws.{if-scalar, if-other}
 
 -- Two values with room for the result are not refused.
@@ -97,8 +97,8 @@ module _ (s t : Shape) (a b : List Float) (room : ℕ) where
   -- ---- `*`
 
   -- `*` by a value that is not scalar is the general product, refusals included.
-  pub multiply-other : length b ≡ 2 ^ t .dims → isScalar b ≡ false → multiply s t a b room ≡ generalProduct s t a b room .outcome
-  unfolding multiply multiplied
+  pub multiply-other : length b ≡ 2 ^ t .dims → isScalar b ≡ false → multiplication s t a b room ≡ generalProduct s t a b room .outcome
+  unfolding multiplication multiplied
   multiply-other l e = ap₂ (unless refusedValue) (refused-by-other l e ∙ sym (refused-by All s t a b room)) (if-other t b _ _ e) ∙ refused-once _ _ refl
 
   -- The dimensions that each value is promoted by.
@@ -125,8 +125,8 @@ module _ (s t : Shape) (a b : List Float) (room : ℕ) where
 
   -- What `*` gives where it is not refused.
   multiply-done : operatorRefusal s t a b room ≡ 0
-      → multiply s t a b room ≡ value (conformedShape up s (resultDims s t b)) (ifScalar (testOf t b) (scaledAt (resultDims s t b)) (productAt (resultDims s t b)))
-  unfolding multiply
+      → multiplication s t a b room ≡ value (conformedShape up s (resultDims s t b)) (ifScalar (testOf t b) (scaledAt (resultDims s t b)) (productAt (resultDims s t b)))
+  unfolding multiplication
   multiply-done z = by-test (testOf t b) _ _ z refl ∙ go (isScalar b) refl
     where
       n : ℕ
@@ -145,18 +145,18 @@ module _ (s t : Shape) (a b : List Float) (room : ℕ) where
           ∙ ap (λ (m : ℕ). value (conformedShape up s m) (productAt m)) (sym d)
           ∙ ap (value (conformedShape up s n)) (sym (if-other t b _ _ e))
 
-  pub multiply-shape : operatorRefusal s t a b room ≡ 0 → multiply s t a b room .shape ≡ conformedShape (promotes (s .flavor) (t .flavor)) s (resultDims s t b)
+  pub multiply-shape : operatorRefusal s t a b room ≡ 0 → multiplication s t a b room .shape ≡ conformedShape (promotes (s .flavor) (t .flavor)) s (resultDims s t b)
   multiply-shape z = ap (λ (o : Outcome). o .shape) (multiply-done z)
 
-  pub multiply-number : multiply s t a b room .number ≡ operatorRefusal s t a b room
-  unfolding multiply
+  pub multiply-number : multiplication s t a b room .number ≡ operatorRefusal s t a b room
+  unfolding multiplication
   multiply-number = go (operatorRefusal s t a b room) refl
     where
-      go : (k : ℕ) → operatorRefusal s t a b room ≡ k → multiply s t a b room .number ≡ operatorRefusal s t a b room
+      go : (k : ℕ) → operatorRefusal s t a b room ≡ k → multiplication s t a b room .number ≡ operatorRefusal s t a b room
       go zero e = ap (λ (o : Outcome). o .number) (multiply-done e) ∙ sym e
       go (suc k) e = ap (λ (o : Outcome). o .number) (unless-refused refusedValue (operatorRefusal s t a b room) (operatorRefusal s t a b room) _ refl (λ z. omega arith))
 
-  pub multiply-length : operatorRefusal s t a b room ≡ 0 → length (multiply s t a b room .coefs) ≡ 2 ^ resultDims s t b
+  pub multiply-length : operatorRefusal s t a b room ≡ 0 → length (multiplication s t a b room .coefs) ≡ 2 ^ resultDims s t b
   unfolding conformed conformedShape
   multiply-length z =
       ap (λ (o : Outcome). length (o .coefs)) (multiply-done z)
@@ -260,8 +260,8 @@ conformed-kept : (d : ℕ) (a : List Float) → d ≤ 9 → length a ≡ 2 ^ d �
 conformed-kept d a h l = sym (conformed-none 0 d d a refl) ∙ resized-same d a h l
 
 -- Values of one shape are multiplied as they stand, whatever the room.
-pub multiply-same : (s : Shape) (a b : List Float) (room : ℕ) → Fits s a room → length b ≡ 2 ^ s .dims
-    → multiply s s a b room ≡ value s (ifScalar (testOf s b) (λ f. scaled f a) (product All (s .flavor) (s .dims) binary64 a b))
+pub multiply-same : (s : Shape) (a b : List Float) (room : ℕ) → KeptFits s a room → length b ≡ 2 ^ s .dims
+    → multiplication s s a b room ≡ value s (ifScalar (testOf s b) (λ f. scaled f a) (product All (s .flavor) (s .dims) binary64 a b))
 unfolding conformedShape operatorRefusal
 multiply-same s a b room f l =
     multiply-done s s a b room

@@ -19,19 +19,19 @@ use Rattle.masks.specs.declared.flavor.Flavor.{Flavor}
 use Rattle.masks.specs.declared.flavor.Flavor.the-variants.{Vanilla, Projective, Cl}
 use Rattle.masks.specs.declared.outcome.Answer.{Answer}
 use Rattle.masks.specs.declared.shape.Shape.{Shape}
-use Rattle.masks.specs.Flavors.{addedDims}
+use Rattle.masks.specs.Flavor.{addedDims}
 use Rattle.masks.specs.Outcome.{Test, Outcome, Gives, refusal, tooMany, wrongCount, noRoom, unless, value, refusedValue, laid}
-use Rattle.masks.specs.Shapes.{withDims, setDims, promotes}
+use Rattle.masks.specs.Shape.{withDims, setDims, promotes}
 use Rattle.masks.proofs.ChangeLaws.{not-refused}
 use Rattle.masks.proofs.Computed.{both-true}
 use Rattle.masks.proofs.ListLaws.{take-laid}
 use Rattle.masks.proofs.OrderLaws.{blades-le}
 use Rattle.masks.proofs.RefusalLaws.{refused-first, refused-later}
 use Rattle.arithmetic.specs.Scalar.{testOf, wasPlanar}
-use Rattle.arithmetic.specs.Operators.{isOther, resultDims, operatorRefusal, multiply}
-use Rattle.arithmetic.specs.Duals.{ample}
+use Rattle.arithmetic.specs.Operators.{isOther, resultDims, operatorRefusal, multiplication}
+use Rattle.arithmetic.specs.Dual.{ample}
 use Rattle.arithmetic.specs.Inverse.{squared}
-use Rattle.arithmetic.specs.Powers.{isNegative, sizeOf, isDirect, powerDims, raised, powerOf, powerRefusal, power}
+use Rattle.arithmetic.specs.Power.{isNegative, sizeOf, isDirect, powerDims, raised, powerOf, powerRefusal, power}
 use Rattle.arithmetic.proofs.KeptLaws as Kept
 use Rattle.arithmetic.proofs.OperatorLaws.{multiply-length}
 use Rattle.arithmetic.proofs.ScalarLaws.{IsPlanar, planar-is, is-planar}
@@ -74,7 +74,7 @@ raised-more s (suc k) (suc j) n r x h i = raised-more s k j (n / 2) _ (squared s
 
 -- One digit more is taken.
 pub raised-next : (s : Shape) (k n : ℕ) (r x : List Float) → 0 < n → n < 2 ^ k
-    → (j : ℕ) × (n / 2 < 2 ^ j) × (raised s k n r x ≡ raised s j (n / 2) (cond (eqb (n % 2) 1) (multiply (withDims s (s .dims + addedDims (s .flavor))) s r x ample .coefs) r) (squared s x))
+    → (j : ℕ) × (n / 2 < 2 ^ j) × (raised s k n r x ≡ raised s j (n / 2) (cond (eqb (n % 2) 1) (multiplication (withDims s (s .dims + addedDims (s .flavor))) s r x ample .coefs) r) (squared s x))
 unfolding raised
 raised-next s zero n r x h l = absurd (omega arith)
 raised-next s (suc k) n r x h l = (k, half n k l, refl)
@@ -82,7 +82,7 @@ raised-next s (suc k) n r x h l = (k, half n k l, refl)
 -- ---- values at the front of an output
 
 -- A value that fits is copied.
-pub copied-front : (s : Shape) (a out after : List Float) (r : Answer) → Kept.Fits s a (length out) → Gives (setDims s (s .dims) a (length out)) r out after → after ≡ laid a out
+pub copied-front : (s : Shape) (a out after : List Float) (r : Answer) → Kept.KeptFits s a (length out) → Gives (setDims s (s .dims) a (length out)) r out after → after ≡ laid a out
 copied-front s a out after r f g = Kept.copy-laid s a r out after g (Kept.copy-done s a r out after g f)
 
 -- A value that a buffer holds at its front is copied on from there.
@@ -114,7 +114,7 @@ module _ (g s : Shape) (r x : List Float) (f : g .flavor ≡ s .flavor) (m : s .
   grown-number =
       rw (grown-dims, le-ltb 9 (g .dims) h, le-ltb 9 (s .dims) (omega arith), eq-eqb (length r) (2 ^ g .dims) l, eq-eqb (length x) (2 ^ s .dims) k, le-ltb 512 (2 ^ g .dims) (blades-le (g .dims) h))
 
-  pub grown-length : length (multiply g s r x 512 .coefs) ≡ 2 ^ g .dims
+  pub grown-length : length (multiplication g s r x 512 .coefs) ≡ 2 ^ g .dims
   grown-length = multiply-length g s r x 512 grown-number ∙ ap (λ (n : ℕ). 2 ^ n) grown-dims
 
 -- ---- lists of tests
@@ -218,13 +218,13 @@ module _ (s : Shape) (p : ℤ) (a : List Float) (room : ℕ) where
       ∙ refused-first (tooMany n) _ (lt-ltb 9 n (above-raised (isDirect (sizeOf p)) (s .dims) (s .flavor) (h .0) (h .1) (h .2)))
 
   -- What holds where neither 1, 2 nor 3 is given.
-  pub record Fits : Type 0 where
+  pub record PowerFits : Type 0 where
     pub small : s .dims ≤ 9
     pub result : powerDims s (sizeOf p) ≤ 9
     pub counted : length a ≡ 2 ^ s .dims
     pub roomy : 2 ^ powerDims s (sizeOf p) ≤ room
 
-  fitting : (k : ℕ) → (1 ≡ k → ⊥) → (2 ≡ k → ⊥) → (3 ≡ k → ⊥) → powerRefusal s p a room ≡ k → Fits × (refusal (planar ∷ least ∷ []) ≡ k)
+  fitting : (k : ℕ) → (1 ≡ k → ⊥) → (2 ≡ k → ⊥) → (3 ≡ k → ⊥) → powerRefusal s p a room ≡ k → PowerFits × (refusal (planar ∷ least ∷ []) ≡ k)
   unfolding powerRefusal
   fitting k x y z e =
       let q = passes-by k (tooMany (s .dims)) _ x e in
@@ -240,50 +240,50 @@ module _ (s : Shape) (p : ℤ) (a : List Float) (room : ℕ) where
         u .1,
       )
 
-  fitted : Fits → powerRefusal s p a room ≡ refusal (planar ∷ least ∷ [])
+  fitted : PowerFits → powerRefusal s p a room ≡ refusal (planar ∷ least ∷ [])
   unfolding powerRefusal refusal
   fitted f =
       rw (le-ltb 9 (s .dims) (f .small), le-ltb 9 n (f .result), eq-eqb (length a) (2 ^ s .dims) (f .counted), le-ltb room (2 ^ n) (f .roomy))
 
   -- Where a value fits, the last two tests decide.
-  pub refused-five : Fits → (isNegative p && wasPlanar (testOf s a)) ≡ true → powerRefusal s p a room ≡ 5
+  pub refused-five : PowerFits → (isNegative p && wasPlanar (testOf s a)) ≡ true → powerRefusal s p a room ≡ 5
   refused-five f e = fitted f ∙ refused-first planar _ e
 
-  pub refused-six : Fits → (isNegative p && wasPlanar (testOf s a)) ≡ false → sizeOf p ≡ 2 ^ 31 → powerRefusal s p a room ≡ 6
+  pub refused-six : PowerFits → (isNegative p && wasPlanar (testOf s a)) ≡ false → sizeOf p ≡ 2 ^ 31 → powerRefusal s p a room ≡ 6
   refused-six f e l = fitted f ∙ refused-later planar _ e ∙ refused-first least [] (eq-eqb (sizeOf p) (2 ^ 31) l)
 
-  pub refused-none : Fits → (isNegative p && wasPlanar (testOf s a)) ≡ false → (sizeOf p ≡ 2 ^ 31 → ⊥) → powerRefusal s p a room ≡ 0
+  pub refused-none : PowerFits → (isNegative p && wasPlanar (testOf s a)) ≡ false → (sizeOf p ≡ 2 ^ 31 → ⊥) → powerRefusal s p a room ≡ 0
   unfolding refusal
   refused-none f e l = fitted f ∙ refused-later planar (least ∷ []) e ∙ refused-later least [] (ne-eqb (sizeOf p) (2 ^ 31) l)
 
-  pub none-refused : powerRefusal s p a room ≡ 0 → Fits × ((isNegative p && wasPlanar (testOf s a)) ≡ false) × (sizeOf p ≡ 2 ^ 31 → ⊥)
+  pub none-refused : powerRefusal s p a room ≡ 0 → PowerFits × ((isNegative p && wasPlanar (testOf s a)) ≡ false) × (sizeOf p ≡ 2 ^ 31 → ⊥)
   none-refused e =
       let f = fitting 0 (λ q. omega arith) (λ q. omega arith) (λ q. omega arith) e in
       let q = passes-by 0 planar _ (λ q. omega arith) (f .1) in
       (f .0, q .0, eqb-false (sizeOf p) (2 ^ 31) (passes-by 0 least [] (λ q. omega arith) (q .1) .0))
 
   -- 5: a negative power of a planar value.
-  pub power-five : power s p a room .number ≡ 5 → Fits × (isNegative p ≡ true) × IsPlanar s a
+  pub power-five : power s p a room .number ≡ 5 → PowerFits × (isNegative p ≡ true) × IsPlanar s a
   power-five e =
       let f = fitting 5 (λ q. omega arith) (λ q. omega arith) (λ q. omega arith) (sym power-number ∙ e) in
       let none = given-none 5 (λ q. omega arith) in
       let b = both-true (isNegative p) _ (fails-here 5 planar _ (λ q. none (passes-by 5 least [] (λ r. omega arith) q .1)) (f .1)) in
       (f .0, b .0, planar-is s a (f .0 .counted) (b .1))
 
-  pub five-power : Fits → isNegative p ≡ true → IsPlanar s a → power s p a room .number ≡ 5
+  pub five-power : PowerFits → isNegative p ≡ true → IsPlanar s a → power s p a room .number ≡ 5
   five-power f g i = power-number ∙ refused-five f (and-both g (is-planar s a (f .counted) i))
 
   -- 6: the power is the least i32, and the value is not planar.
-  pub power-six : power s p a room .number ≡ 6 → Fits × (sizeOf p ≡ 2 ^ 31) × ((isNegative p ≡ true) → IsPlanar s a → ⊥)
+  pub power-six : power s p a room .number ≡ 6 → PowerFits × (sizeOf p ≡ 2 ^ 31) × ((isNegative p ≡ true) → IsPlanar s a → ⊥)
   power-six e =
       let f = fitting 6 (λ q. omega arith) (λ q. omega arith) (λ q. omega arith) (sym power-number ∙ e) in
       let q = passes-by 6 planar _ (λ q. omega arith) (f .1) in
       (f .0, eqb-true _ _ (fails-here 6 least [] (given-none 6 (λ r. omega arith)) (q .1)), λ g i. true≢false (sym (and-both g (is-planar s a (f .0 .counted) i)) ∙ q .0))
 
-  pub six-power : Fits → sizeOf p ≡ 2 ^ 31 → ((isNegative p ≡ true) → IsPlanar s a → ⊥) → power s p a room .number ≡ 6
+  pub six-power : PowerFits → sizeOf p ≡ 2 ^ 31 → ((isNegative p ≡ true) → IsPlanar s a → ⊥) → power s p a room .number ≡ 6
   six-power f e g = power-number ∙ refused-six f (not-both (isNegative p) _ (λ q w. g q (planar-is s a (f .counted) w))) e
 
   -- A power that is done has the flavor of the value, and one dimension more under Projective unless the power is 1, 2, -1 or -2.
-  pub power-done : power s p a room .number ≡ 0 → Fits × (power s p a room ≡ value (withDims s (powerDims s (sizeOf p))) (powerOf s p a))
+  pub power-done : power s p a room .number ≡ 0 → PowerFits × (power s p a room ≡ value (withDims s (powerDims s (sizeOf p))) (powerOf s p a))
   unfolding power
   power-done e = (none-refused (sym power-number ∙ e) .0, not-refused (powerRefusal s p a room) _ e .1)

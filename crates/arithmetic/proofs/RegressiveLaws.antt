@@ -10,8 +10,8 @@ use Rattle.masks.specs.declared.flavor.Flavor.the-variants.{Vanilla}
 use Rattle.masks.specs.declared.shape.Shape.{Shape}
 use Rattle.masks.specs.declared.outcome.Answer.{Answer}
 use Rattle.masks.specs.Outcome.{Outcome, Gives, refusal, tooMany, wrongCount, noRoom, value, refusedValue, answerOf, shapeOf, laid}
-use Rattle.masks.specs.Flavors.{addedDims}
-use Rattle.masks.specs.Shapes.{conformedShape}
+use Rattle.masks.specs.Flavor.{addedDims}
+use Rattle.masks.specs.Shape.{conformedShape}
 use Rattle.masks.specs.Build.{pseudoscalar}
 use Rattle.masks.proofs.ListLaws.{take-laid}
 use Rattle.masks.proofs.OrderLaws.{blades-le}
@@ -24,9 +24,10 @@ use Rattle.product.specs.Products.{Counted, GivesProduct, multipliedOf, general
 use Rattle.product.proofs.RefusalLaws.{pair, tests}
 use Rattle.product.proofs.GatherLaws.{product-length}
 use Rattle.product.proofs.MultipliedLaws.{multiplied-same, multiplied-done}
-use Rattle.arithmetic.specs.Kept.{unit, keptRefusal, kept}
-use Rattle.arithmetic.specs.Operators.{pairTests, withCoefs, multiply}
-use Rattle.arithmetic.specs.Duals.{ample, pseudoUnit, dualOf, antidualOf, meetingDims, regressiveProduct}
+use Rattle.arithmetic.specs.Kept.{keptRefusal, kept}
+use Rattle.arithmetic.specs.Scale.{unity}
+use Rattle.arithmetic.specs.Operators.{pairTests, withCoefs, multiplication}
+use Rattle.arithmetic.specs.Dual.{ample, pseudoUnit, dualOf, antidualOf, meetingDims, regressiveProduct}
 use Rattle.arithmetic.proofs.OperatorLaws.{multiply-same}
 
 -- ---- a call that keeps the shape: n is the number that the code found
@@ -43,15 +44,15 @@ module _ (g : List Float → List Float) (s : Shape) (a : List Float) (n : ℕ) 
 -- ---- the pseudo unit
 
 pub unit-length : (d : ℕ) → length (pseudoUnit d) ≡ 2 ^ d
-unit-length d = length-grade-set d d (unit ∷ []) (grade-fits d d 1 (le-refl d) (size-last d))
+unit-length d = length-grade-set d d (unity ∷ []) (grade-fits d d 1 (le-refl d) (size-last d))
 
-unit-built : (d room : ℕ) → d ≤ 9 → 2 ^ d ≤ room → pseudoscalar d unit Vanilla room ≡ value (shapeOf d Vanilla) (pseudoUnit d)
+unit-built : (d room : ℕ) → d ≤ 9 → 2 ^ d ≤ room → pseudoscalar d unity Vanilla room ≡ value (shapeOf d Vanilla) (pseudoUnit d)
 unfolding pseudoscalar addedDims
-unit-built d room h m = rw (add-zero d) (one-built d d (unit ∷ []) Vanilla room h m)
+unit-built d room h m = rw (add-zero d) (one-built d d (unity ∷ []) Vanilla room h m)
 
 -- ---- what `dual` and `antidual` write, whatever the room: the pseudo unit is built at the front of an array with room for any value
 
-module _ (d : ℕ) (a : List Float) (h : d ≤ 9) (e : length a ≡ 2 ^ d) (v : Shape) (w : v ≡ shapeOf d Vanilla) (u : Answer) (zeros held : List Float) (built : Gives (pseudoscalar d unit Vanilla 512) u zeros held) where
+module _ (d : ℕ) (a : List Float) (h : d ≤ 9) (e : length a ≡ 2 ^ d) (v : Shape) (w : v ≡ shapeOf d Vanilla) (u : Answer) (zeros held : List Float) (built : Gives (pseudoscalar d unity Vanilla 512) u zeros held) where
   unit-part : take (length a - 0) held ≡ pseudoUnit d
   unit-part =
       ap (take (length a - 0)) (built .left ∙ ap (λ (o : Outcome). laid (o .coefs) zeros) (unit-built d 512 h (blades-le d h)))
@@ -65,7 +66,7 @@ module _ (d : ℕ) (a : List Float) (h : d ≤ 9) (e : length a ≡ 2 ^ d) (v : 
         ∙ ap (λ (o : Counted). laid (o .outcome .coefs) before)
         (multiplied-same All (shapeOf d Vanilla) a (pseudoUnit d) (length before) (record { small = h; roomy = m }) e (unit-length d))
 
-    pub antidual-laid : (r : Answer) → Gives (multiply v v (take (length a - 0) held) a (length before)) r before after → after ≡ laid (antidualOf d a) before
+    pub antidual-laid : (r : Answer) → Gives (multiplication v v (take (length a - 0) held) a (length before)) r before after → after ≡ laid (antidualOf d a) before
     unfolding antidualOf
     antidual-laid r g =
         (rw (w, unit-part) at g) .left

@@ -12,14 +12,15 @@ use Rattle.masks.specs.declared.shape.Shape.{Shape}
 use Rattle.masks.specs.declared.outcome.Answer.{Answer}
 use Rattle.masks.specs.Order.{order}
 use Rattle.masks.specs.Outcome.{Gives, laid, value}
-use Rattle.masks.specs.Shapes.{coef, negatedIf, setDims}
+use Rattle.masks.specs.Shape.{coef, negatedIf, setDims}
 use Rattle.masks.proofs.ListLaws.{getD-map}
 use Rattle.masks.proofs.OrderLaws.{length-order, order-at}
 use Rattle.masks.proofs.ShapeLaws.{coef-inside, ordered-length, ordered-at, ordered}
 use Rattle.product.specs.Pairwise.{maskAt}
 use Rattle.product.specs.Reverse.{reversed}
-use Rattle.arithmetic.specs.Kept.{kept, reverse, invReversed}
-use Rattle.arithmetic.proofs.KeptLaws.{Fits, kept-value, copy-fits, copy-changed}
+use Rattle.arithmetic.specs.Kept.{kept}
+use Rattle.arithmetic.specs.Reverse.{reverse, invReversed}
+use Rattle.arithmetic.proofs.KeptLaws.{KeptFits, kept-value, copy-fits, copy-changed}
 
 -- ---- one number
 
@@ -90,10 +91,10 @@ module _ (s : Shape) (a : List Float) (r : Answer) (before mid : List Float) (g 
   copy-roomy e = let f = copy-fits s a r before mid g z in (f .small, omega (arith, f .roomy))
 
 -- The same of the call.
-pub reverse-twice : (s : Shape) (a : List Float) (room : ℕ) → Fits s a room → reverse s (reverse s a room .coefs) room ≡ value s a
+pub reverse-twice : (s : Shape) (a : List Float) (room : ℕ) → KeptFits s a room → reverse s (reverse s a room .coefs) room ≡ value s a
 reverse-twice s a room f =
     let d = s .dims in
     let r = reversed d a in
-    let again : Fits s r room = record { small = f .small; counted = reversed-length d a; roomy = f .roomy } in
+    let again : KeptFits s r room = record { small = f .small; counted = reversed-length d a; roomy = f .roomy } in
     ap (λ o. reverse s (o .coefs) room) (kept-value (reversed d) s a room f)
     ∙ kept-value (reversed d) s r room again ∙ ap (value s) (reversed-twice d a (f .counted))

@@ -4,16 +4,15 @@ use mathlib.Core.Bool.{true}
 use mathlib.Core.List.{[], _∷_}
 use lib.Ieee.{eq}
 use Rattle.masks.specs.declared.flavor.Flavor.the-variants.{Vanilla}
-use Rattle.masks.specs.Outcome.{shapeOf, refusal, unless}
-use Rattle.masks.specs.Shapes.{nought}
+use Rattle.masks.specs.Outcome.{shapeOf, refusal, unless, nought}
 use Rattle.product.proofs.Table as Product
-use Rattle.arithmetic.specs.Kept.{unit}
+use Rattle.arithmetic.specs.Scale.{unity}
 use Rattle.arithmetic.specs.Scalar.{allZero, isScalar, isPlanar, testOf, ifScalar}
-use Rattle.arithmetic.specs.Comparison.{answersAgree, equals}
+use Rattle.arithmetic.specs.Compare.{answersAgree, equals}
 
 pub record Rows : Type 0 where
   pub product : Product.Rows
-  pub others-equal : equals (shapeOf 2 Vanilla) (shapeOf 2 Vanilla) (nought ∷ unit ∷ nought ∷ nought ∷ []) (nought ∷ nought ∷ unit ∷ nought ∷ []) ≡ record { number = 0; yes = true }
+  pub others-equal : equals (shapeOf 2 Vanilla) (shapeOf 2 Vanilla) (nought ∷ unity ∷ nought ∷ nought ∷ []) (nought ∷ nought ∷ unity ∷ nought ∷ []) ≡ record { number = 0; yes = true }
 
 pub table : Rows
 unfolding equals unless refusal testOf isScalar allZero isPlanar ifScalar answersAgree eq

@@ -12,10 +12,10 @@ use Rattle.masks.specs.declared.flavor.Flavor.{Flavor}
 use Rattle.masks.specs.declared.shape.Shape.{Shape}
 use Rattle.masks.specs.Outcome.{Outcome, shapeOf}
 use Rattle.product.specs.declared.mode.Mode.the-variants.{All}
-use Rattle.product.specs.Accuracy.{sizeAt, contributing, exactSizes, exactSum, Holds, Fitting, times, InBounds, LiesWithin, ExactCase, IsExactly, EqualNumbers}
+use Rattle.product.specs.Accuracy.{exactSizeAt, contributing, exactSizes, exactSum, Holds, Fitting, times, InBounds, LiesWithin, ExactCase, IsExactly, EqualNumbers}
 use Rattle.arithmetic.specs.Scalar.{isScalar, allZero}
-use Rattle.arithmetic.specs.Kept.{scaled}
-use Rattle.arithmetic.specs.Operators.{multiply}
+use Rattle.arithmetic.specs.Scale.{scaled}
+use Rattle.arithmetic.specs.Operators.{multiplication}
 use Rattle.arithmetic.proofs.ScalarLaws.{scalar-at, if-scalar}
 use Rattle.arithmetic.proofs.OperatorLaws.{multiply-same}
 use Rattle.arithmetic.proofs.TimesLaws.{scalar-sizes, star-bound, star-exact, star-agrees}
@@ -68,7 +68,7 @@ quarters-scalar : isScalar quarters ≡ true
 unfolding quarters isScalar allZero eq
 quarters-scalar = refl
 
-quarters-small : (k : ℕ) → k < 4 → sizeAt 2 a k * sizeAt 2 quarters 0 ≤ 2 ^ 53
+quarters-small : (k : ℕ) → k < 4 → exactSizeAt 2 a k * exactSizeAt 2 quarters 0 ≤ 2 ^ 53
 unfolding a quarters
 quarters-small = four _ (lit≤ tt) (lit≤ tt) (lit≤ tt) (lit≤ tt)
 
@@ -95,19 +95,19 @@ module _ (f : Flavor) where
   -- ---- the laws
 
   bounded : (k : ℕ) → k < 4
-      → LiesWithin (getD (multiply plane plane a tenth 4 .coefs) k nan)
+      → LiesWithin (getD (multiplication plane plane a tenth 4 .coefs) k nan)
       (suc (contributing All f 2 k) * exactSizes All f 2 k 452 452 a tenth + 2 ^ 53 * 2 ^ 858) (exactSum All f 2 k 452 452 a tenth)
   bounded = star-bound plane 4 fitting a tenth a-holds tenth-holds a-bounds tenth-bounds
 
-  exactly : (k : ℕ) → k < 4 → IsExactly 4 (getD (multiply plane plane a quarters 4 .coefs) k nan) (exactSum All f 2 k 2 2 a quarters)
+  exactly : (k : ℕ) → k < 4 → IsExactly 4 (getD (multiplication plane plane a quarters 4 .coefs) k nan) (exactSum All f 2 k 2 2 a quarters)
   unfolding exact-case
   exactly = star-exact plane 4 fitting a quarters a-holds quarters-holds exact-case
 
-  agrees : EqualNumbers 2 (multiply plane plane a quarters 4 .coefs) (times plane 4 a quarters)
+  agrees : EqualNumbers 2 (multiplication plane plane a quarters 4 .coefs) (times plane 4 a quarters)
   agrees = star-agrees plane 4 fitting a quarters a-holds quarters-holds exact-case
 
   -- The product is 1.125, -1.5, 0.1875 and 2.25.
-  worked : multiply plane plane a quarters 4 .coefs ≡ fin false 9 (negsuc 2) ∷ fin true 3 (negsuc 0) ∷ fin false 3 (negsuc 3) ∷ fin false 9 (negsuc 1) ∷ []
+  worked : multiplication plane plane a quarters 4 .coefs ≡ fin false 9 (negsuc 2) ∷ fin true 3 (negsuc 0) ∷ fin false 3 (negsuc 3) ∷ fin false 9 (negsuc 1) ∷ []
   worked =
       ap (λ (o : Outcome). o .coefs) (multiply-same plane a quarters 4 (record { small = lit≤ tt; counted = a-holds .many; roomy = lit≤ tt }) (quarters-holds .many))
       ∙ if-scalar plane quarters (λ x. scaled x a) _ quarters-scalar

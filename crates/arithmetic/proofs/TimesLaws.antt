@@ -28,23 +28,23 @@ use Rattle.rounding.proofs.TermsLaws.{prod-law, round-cap}
 use Rattle.rounding.proofs.SizedLaws.{range-grid, product-le}
 use Rattle.masks.specs.declared.flavor.Flavor.{Flavor}
 use Rattle.masks.specs.declared.shape.Shape.{Shape}
-use Rattle.masks.specs.Flavors.{metricOf}
+use Rattle.masks.specs.Flavor.{metricOf}
 use Rattle.masks.specs.Order.{start, rank, place}
 use Rattle.masks.specs.Outcome.{Outcome}
 use Rattle.masks.proofs.Computed.{both}
 use Rattle.masks.proofs.ListLaws.{getD-map}
 use Rattle.masks.proofs.OrderLaws.{order-at, order-place}
 use Rattle.product.specs.declared.mode.Mode.the-variants.{All}
-use Rattle.product.specs.Modes.{takes, flavorFor, pairMetric}
+use Rattle.product.specs.Mode.{takes, flavorFor, pairMetric}
 use Rattle.product.specs.Pairwise.{maskAt}
-use Rattle.product.specs.Gathered.{gathered}
+use Rattle.product.specs.inner.Gathered.{gathered}
 use Rattle.product.specs.Accuracy.{valueIn, above, beneath, contributing, exactSizes, exactSum, Holds, Fitting, times, InBounds, LiesWithin, ExactCase, IsExactly, EqualNumbers}
 use Rattle.product.proofs.ScaleLaws.{sign-is, size-is, value-whole, equal-numbers}
 use Rattle.product.proofs.ExactLaws.{exact-sizes-total, exact-sum-parts}
 use Rattle.product.proofs.AccuracyLaws.{bound, exact}
 use Rattle.arithmetic.specs.Scalar.{isZero, isScalar}
-use Rattle.arithmetic.specs.Kept.{unit, scaled}
-use Rattle.arithmetic.specs.Operators.{multiply}
+use Rattle.arithmetic.specs.Scale.{unity, scaled}
+use Rattle.arithmetic.specs.Operators.{multiplication}
 use Rattle.arithmetic.proofs.ScalarLaws.{scalar-at, if-scalar}
 use Rattle.arithmetic.proofs.OperatorLaws.{multiply-other, multiply-same}
 
@@ -64,19 +64,19 @@ size-zero u (fin s m e) h = size-is u (fin s m e) s 0 (refl, none (m * up e) (2 
     none zero c d q = omega arith
     none (suc a) c d q = absurd (omega arith)
 
-is-one : (x : Float) → T (fits binary64 x) → T (eq x unit) → x ≡ unit
+is-one : (x : Float) → T (fits binary64 x) → T (eq x unity) → x ≡ unity
 unfolding eq
 is-one nan t h = absurd h
 is-one (inf s) t h = absurd h
 is-one (fin s m e) t h =
     let q = level-parts s false (m * up e * 1) (1 * 1 * down e) h in
-    unique binary64 (fin s m e) unit false 1 1 (lit< tt) t (unfold fits in tt) (plus s (m * up e * 1) (down e) (q .0) (down-pos e) (q .1), q .0) (refl, refl)
+    unique binary64 (fin s m e) unity false 1 1 (lit< tt) t (unfold fits in tt) (plus s (m * up e * 1) (down e) (q .0) (down-pos e) (q .1), q .0) (refl, refl)
   where
     plus : (s : Bool) (a d : ℕ) → a ≡ 1 * 1 * d → 0 < d → T (Bool·beq s false || eqb a 0) → s ≡ false
     plus false a d q l h = refl
     plus true a d q l h = absurd (omega (arith, eqb→eq a 0 h))
 
-times-one : (x : Float) → T (fits binary64 x) → mul binary64 x unit ≡ x
+times-one : (x : Float) → T (fits binary64 x) → mul binary64 x unity ≡ x
 unfolding mul
 times-one x t = swap x ∙ times-unit binary64 false x t
   where
@@ -84,7 +84,7 @@ times-one x t = swap x ∙ times-unit binary64 false x t
     sign true = refl
     sign false = refl
 
-    swap : (x : Float) → mul binary64 x unit ≡ mul binary64 unit x
+    swap : (x : Float) → mul binary64 x unity ≡ mul binary64 unity x
     swap nan = refl
     swap (inf s) = ap inf (sign s)
     swap (fin s m e) = λ i. round binary64 (sign s i) (mul-comm (m * up e) 1 i) (mul-comm (down e) 1 i)
@@ -92,9 +92,9 @@ times-one x t = swap x ∙ times-unit binary64 false x t
 -- By 1.0 too, each coefficient is the product.
 scaled-at : (f : Float) (a : List Float) (k : ℕ) → T (fits binary64 f) → T (fits binary64 (getD a k nan)) → k < length a → getD (scaled f a) k nan ≡ mul binary64 (getD a k nan) f
 unfolding scaled
-scaled-at f a k t u h = go (eq f unit) (is-one f t)
+scaled-at f a k t u h = go (eq f unity) (is-one f t)
   where
-    go : (b : Bool) → (T b → f ≡ unit) → getD (cond b a (map (λ x. mul binary64 x f) a)) k nan ≡ mul binary64 (getD a k nan) f
+    go : (b : Bool) → (T b → f ≡ unity) → getD (cond b a (map (λ x. mul binary64 x f) a)) k nan ≡ mul binary64 (getD a k nan) f
     go true e = rw (e tt) (sym (times-one (getD a k nan) u))
     go false e = getD-map (λ x. mul binary64 x f) a k nan nan h
 
@@ -213,10 +213,10 @@ module _ (s : Shape) (room : ℕ) (t : Fitting s room) (a b : List Float) (ha : 
   first : 0 < 2 ^ s .dims
   first = pow-pos (s .dims)
 
-  by-other : isScalar b ≡ false → multiply s s a b room .coefs ≡ times s room a b
+  by-other : isScalar b ≡ false → multiplication s s a b room .coefs ≡ times s room a b
   by-other e = ap (λ (o : Outcome). o .coefs) (multiply-other s s a b room (hb .many) e)
 
-  by-scalar : isScalar b ≡ true → (k : ℕ) → k < 2 ^ s .dims → getD (multiply s s a b room .coefs) k nan ≡ prod binary64 (pairOf a b k)
+  by-scalar : isScalar b ≡ true → (k : ℕ) → k < 2 ^ s .dims → getD (multiplication s s a b room .coefs) k nan ≡ prod binary64 (pairOf a b k)
   by-scalar e k h =
       ap (λ (o : Outcome). getD (o .coefs) k nan) (multiply-same s a b room (record { small = t .small; counted = ha .many; roomy = t .roomy }) (hb .many))
       ∙ ap (λ (xs : List Float). getD xs k nan) (if-scalar s b _ _ e)
@@ -228,7 +228,7 @@ module _ (s : Shape) (room : ℕ) (t : Fitting s room) (a b : List Float) (ha : 
 
   -- Demand 3's bound: in units of 2 ^ -904, of which 2 ^ -46 is 2 ^ 858.
   pub star-bound : InBounds (s .dims) a → InBounds (s .dims) b → (k : ℕ) → k < 2 ^ s .dims
-      → LiesWithin (getD (multiply s s a b room .coefs) k nan)
+      → LiesWithin (getD (multiplication s s a b room .coefs) k nan)
       (suc (contributing All (s .flavor) (s .dims) k) * exactSizes All (s .flavor) (s .dims) k 452 452 a b + 2 ^ 53 * 2 ^ 858)
       (exactSum All (s .flavor) (s .dims) k 452 452 a b)
   star-bound ia ib k h =
@@ -240,7 +240,7 @@ module _ (s : Shape) (room : ℕ) (t : Fitting s room) (a b : List Float) (ha : 
 
   -- In the exact case each coefficient is the exact sum.
   pub star-exact : (c : ExactCase All (s .flavor) (s .dims) a b) (k : ℕ) → k < 2 ^ s .dims
-      → IsExactly (c .p + c .q) (getD (multiply s s a b room .coefs) k nan) (exactSum All (s .flavor) (s .dims) k (c .p) (c .q) a b)
+      → IsExactly (c .p + c .q) (getD (multiplication s s a b room .coefs) k nan) (exactSum All (s .flavor) (s .dims) k (c .p) (c .q) a b)
   star-exact c k h =
       by-test (isScalar b)
       (λ e.
@@ -250,7 +250,7 @@ module _ (s : Shape) (room : ℕ) (t : Fitting s room) (a b : List Float) (ha : 
       (λ e. rw (by-other e) (exact All s room a b t ha hb c k h))
 
   -- There `*` is the pairwise product, as numbers, whether a factor is scalar or not.
-  pub star-agrees : ExactCase All (s .flavor) (s .dims) a b → EqualNumbers (s .dims) (multiply s s a b room .coefs) (times s room a b)
+  pub star-agrees : ExactCase All (s .flavor) (s .dims) a b → EqualNumbers (s .dims) (multiplication s s a b room .coefs) (times s room a b)
   star-agrees c k h =
       let x = star-exact c k h in
       let y = exact All s room a b t ha hb c k h in

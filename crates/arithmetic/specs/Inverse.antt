@@ -1,21 +1,16 @@
--- The inverse, and division by a value. Assumes nothing.
-use mathlib.Core.Bool.{cond}
-use mathlib.Core.List.{List, [], _∷_, _++_, map}
+-- The inverse. Assumes nothing.
+use mathlib.Core.List.{List, [], _∷_, map}
 use Prim.Native.Nat.{ℕ, _-_, _^_}
 use lib.Ieee.{Float, nan, binary64, add, sub, mul, neg}
 use lib.ListN.{length, getD, set, replicate}
 use Rattle.masks.specs.declared.shape.Shape.{Shape}
-use Rattle.masks.specs.Outcome.{Outcome, refusal, tooMany, wrongCount, noRoom, unless, value, refusedValue}
-use Rattle.masks.specs.Shapes.{nought}
+use Rattle.masks.specs.Outcome.{Outcome, refusal, tooMany, wrongCount, noRoom, unless, value, refusedValue, nought}
 use Rattle.product.specs.declared.mode.Mode.the-variants.{All}
 use Rattle.product.specs.Pairwise.{product}
 use Rattle.arithmetic.specs.declared.scalar.ScalarTest.{ScalarTest}
 use Rattle.arithmetic.specs.declared.scalar.ScalarTest.the-variants.{Scalar, Planar, Neither}
 use Rattle.arithmetic.specs.Scalar.{testOf, ifScalar, noInverse}
-use Rattle.arithmetic.specs.Kept.{scaled, reciprocal}
-use Rattle.arithmetic.specs.Operators.{pairTests, isOther, resultDims, multiply}
-
--- ---- the inverse
+use Rattle.arithmetic.specs.Scale.{scaled, reciprocal}
 
 -- A value of one shape squared by the pairwise product.
 abbrev pub squared : Shape → List Float → List Float
@@ -52,21 +47,3 @@ inverse s a room =
     unless refusedValue
     (refusal (tooMany (s .dims) ∷ wrongCount (length a) (s .dims) ∷ noRoom room (2 ^ s .dims) ∷ noInverse (testOf s a) ∷ []))
     (value s (inverseOf s a))
-
--- ---- division
-
--- What decides the result's dimensions: the inverse, and for a planar value, which has none here, the value itself.
-unfoldable pub divisorBy : ScalarTest → Shape → List Float → List Float
-divisorBy (Scalar f) t b = b
-divisorBy (Planar c) t b = b
-divisorBy Neither t b = generalInverse t b
-
--- By a scalar the left's dimensions stay; by others they are those of `*` by the inverse.
-unfoldable pub quotientDims : Shape → Shape → List Float → ℕ
-quotientDims s t b = cond (isOther t b) (resultDims s t (divisorBy (testOf t b) t b)) (s .dims)
-
--- `/` by a scalar value multiplies by 1 / f and doesn't conform; by others it multiplies by the inverse.
-unfoldable pub quotient : Shape → Shape → List Float → List Float → ℕ → Outcome
-quotient s t a b room =
-    unless refusedValue (refusal (pairTests s t (quotientDims s t b) a b room ++ noInverse (testOf t b) ∷ []))
-    (ifScalar (testOf t b) (λ f. value s (scaled (reciprocal f) a)) (multiply s t a (inverseOf t b) room))

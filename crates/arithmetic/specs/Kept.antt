@@ -1,24 +1,12 @@
 -- Calls on one value that keep its shape. Assumes nothing.
 use mathlib.Core.Path.{_≡_}
-use mathlib.Core.Bool.{cond}
-use mathlib.Core.List.{List, [], _∷_, _++_, map}
-use Prim.Native.Nat.{ℕ, _-_, _^_, _%_}
-use lib.Count.{ones}
-use lib.Dec.{ltb}
-use lib.Ieee.{Float, fin, nan, binary64, eq, mul, div, neg}
-use lib.IntN.{pos}
-use mathlib.Core.Bool.{false}
+use mathlib.Core.List.{List, [], _∷_, _++_}
+use Prim.Native.Nat.{ℕ, _-_, _^_}
+use lib.Ieee.{Float, nan}
 use lib.ListN.{length, getD, set, take, replicate}
 use Rattle.masks.specs.declared.shape.Shape.{Shape}
-use Rattle.masks.specs.Order.{order}
-use Rattle.masks.specs.Outcome.{Outcome, refusal, tooMany, wrongCount, noRoom, unless, value, refusedValue, laid}
-use Rattle.masks.specs.Shapes.{nought, coef, negatedIf}
-use Rattle.product.specs.Reverse.{reversed}
+use Rattle.masks.specs.Outcome.{Outcome, refusal, tooMany, wrongCount, noRoom, unless, value, refusedValue, laid, nought}
 use Rattle.arithmetic.specs.declared.outcome.Taken.{Taken}
-
--- `unit` is 1.
-abbrev pub unit : Float
-unit = fin false 1 (pos 0)
 
 -- The number that such a call is refused with, or 0.
 abbrev pub keptRefusal : Shape → List Float → ℕ → ℕ
@@ -27,38 +15,6 @@ keptRefusal s a room = refusal (tooMany (s .dims) ∷ wrongCount (length a) (s .
 -- `kept g` is the call that changes the coefficients as g does.
 unfoldable pub kept : (List Float → List Float) → Shape → List Float → ℕ → Outcome
 kept g s a room = unless refusedValue (keptRefusal s a room) (value s (g a))
-
--- ---- by a number
-
--- Each coefficient is multiplied, unless by 1.0.
-unfoldable pub scaled : Float → List Float → List Float
-scaled f a = cond (eq f unit) a (map (λ x. mul binary64 x f) a)
-
-abbrev pub mulF64 : Shape → Float → List Float → ℕ → Outcome
-mulF64 s f = kept (scaled f) s
-
--- `/` by a number multiplies by 1 / f.
-abbrev pub reciprocal : Float → Float
-reciprocal f = div binary64 unit f
-
-abbrev pub divF64 : Shape → Float → List Float → ℕ → Outcome
-divF64 s f = kept (scaled (reciprocal f)) s
-
--- ---- signs
-
-abbrev pub negation : Shape → List Float → ℕ → Outcome
-negation = kept (map neg)
-
--- `reverse` negates grades 2, 3 mod 4.
-abbrev pub reverse : Shape → List Float → ℕ → Outcome
-reverse s = kept (reversed (s .dims)) s
-
--- `inv_reverse` negates the rest.
-unfoldable pub invReversed : ℕ → List Float → List Float
-invReversed d a = map (λ m. negatedIf (ltb (ones m % 4) 2) (coef d a m)) (order d)
-
-abbrev pub invReverse : Shape → List Float → ℕ → Outcome
-invReverse s = kept (invReversed (s .dims)) s
 
 -- ---- place 0
 

@@ -1,9 +1,12 @@
 -- The definitions that the contracts of `arithmetic` cite.
 pub mod Scalar
 pub mod Kept
+pub mod Scale
+pub mod Reverse
 pub mod Operators
-pub mod Duals
+pub mod Dual
 pub mod Magnitude
 pub mod Inverse
-pub mod Powers
-pub mod Comparison
+pub mod Quotient
+pub mod Power
+pub mod Compare

@@ -8,10 +8,9 @@ use Rattle.clifford.specs.Blade.{has}
 use Rattle.clifford.specs.Metric.{shared}
 use Rattle.masks.specs.declared.flavor.Flavor.{Flavor}
 use Rattle.masks.specs.declared.shape.Shape.{Shape}
-use Rattle.masks.specs.declared.outcome.Number.{Number}
-use Rattle.masks.specs.Flavors.{metricOf}
-use Rattle.masks.specs.Outcome.{refusal, tooMany, wrongCount, unless}
-use Rattle.masks.specs.Shapes.{nought, refusedNumber}
+use Rattle.masks.specs.declared.outcome.Real.{Real}
+use Rattle.masks.specs.Flavor.{metricOf}
+use Rattle.masks.specs.Outcome.{refusal, tooMany, wrongCount, unless, nought, refusedReal}
 use Rattle.product.specs.Pairwise.{maskAt}
 
 -- w: the product of the flavor metrics of the mask's bits, with no swap sign.
@@ -23,11 +22,11 @@ unfoldable pub weighed : ℤ → Float → Float
 weighed w c = mul binary64 (mul binary64 (ofInt binary64 w) c) c
 
 -- The sum of (w x c) x c over the places below n, from place 0 up, zeros multiplied too.
-unfoldable pub squaresBelow : Flavor → ℕ → List Float → ℕ → Float
-squaresBelow f d a zero = nought
-squaresBelow f d a (suc i) = add binary64 (squaresBelow f d a i) (weighed (weight f d (maskAt d i)) (getD a i nan))
+unfoldable pub weighedSum : Flavor → ℕ → List Float → ℕ → Float
+weighedSum f d a zero = nought
+weighedSum f d a (suc i) = add binary64 (weighedSum f d a i) (weighed (weight f d (maskAt d i)) (getD a i nan))
 
-unfoldable pub squaredMagnitude : Shape → List Float → Number
+unfoldable pub squaredMagnitude : Shape → List Float → Real
 squaredMagnitude s a =
-    unless refusedNumber (refusal (tooMany (s .dims) ∷ wrongCount (length a) (s .dims) ∷ []))
-    (record { number = 0; value = squaresBelow (s .flavor) (s .dims) a (2 ^ s .dims) })
+    unless refusedReal (refusal (tooMany (s .dims) ∷ wrongCount (length a) (s .dims) ∷ []))
+    (record { number = 0; value = weighedSum (s .flavor) (s .dims) a (2 ^ s .dims) })

@@ -7,12 +7,12 @@ use lib.Ieee.{Float, nan, binary64, add, sub}
 use lib.ListN.{length, getD, set}
 use Rattle.masks.specs.declared.shape.Shape.{Shape}
 use Rattle.masks.specs.Outcome.{Test, Outcome, Pair, refusal, tooMany, wrongCount, noRoom, unless, refusedValue}
-use Rattle.masks.specs.Shapes.{promotes, conformTo, conform}
+use Rattle.masks.specs.Shape.{promotes, conformTo, conform}
 use Rattle.product.specs.Products.{generalProduct}
 use Rattle.arithmetic.specs.declared.operators.Sum.{Sum}
 use Rattle.arithmetic.specs.declared.operators.Sum.the-variants.{Plus, Minus}
 use Rattle.arithmetic.specs.Scalar.{isScalar, testOf, ifScalar}
-use Rattle.arithmetic.specs.Kept.{scaled}
+use Rattle.arithmetic.specs.Scale.{scaled}
 
 -- ---- refusals
 
@@ -43,8 +43,8 @@ abbrev pub withCoefs : (List Float → List Float) → Outcome → Outcome
 withCoefs g o = record { number = o .number; shape = o .shape; coefs = g (o .coefs) }
 
 -- By a scalar on the right the left side is conformed and each coefficient multiplied, unless by 1.0, with no snap; else conform and product.
-unfoldable pub multiply : Shape → Shape → List Float → List Float → ℕ → Outcome
-multiply s t a b room =
+unfoldable pub multiplication : Shape → Shape → List Float → List Float → ℕ → Outcome
+multiplication s t a b room =
     unless refusedValue (operatorRefusal s t a b room)
     (ifScalar (testOf t b) (λ f. withCoefs (scaled f) (conformTo s t a room)) (generalProduct s t a b room .outcome))
 

@@ -8,8 +8,7 @@ use lib.ListN.{length, getD}
 use Rattle.masks.specs.declared.flavor.Flavor.{Flavor}
 use Rattle.masks.specs.declared.flavor.Flavor.the-variants.{Vanilla, Projective, Cl}
 use Rattle.masks.specs.declared.shape.Shape.{Shape}
-use Rattle.masks.specs.Outcome.{Test, refusal, tooMany, wrongCount, unless}
-use Rattle.masks.specs.Shapes.{nought}
+use Rattle.masks.specs.Outcome.{Test, refusal, tooMany, wrongCount, unless, nought}
 use Rattle.arithmetic.specs.declared.scalar.Complex.{Complex}
 use Rattle.arithmetic.specs.declared.scalar.ScalarTest.{ScalarTest}
 use Rattle.arithmetic.specs.declared.scalar.ScalarTest.the-variants.{Scalar, Planar, Neither}

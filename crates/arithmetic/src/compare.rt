@@ -12,7 +12,7 @@ ghost use mathlib.Core.Bool.{true, false};
 ghost use lib.Ieee.{eq};
 ghost use lib.ListN.{length};
 ghost use Rattle.arithmetic.specs.Scalar.{ifScalar};
-ghost use Rattle.arithmetic.specs.Comparison.{comparedRefusal, answersAgree, sameNumber, samePlaces, equals, comparedNans, comparedNumbers, comparedPlaces, comparedLists, comparedBy, compared};
+ghost use Rattle.arithmetic.specs.Compare.{comparedRefusal, answersAgree, sameNumber, samePlaces, equals, comparedNans, comparedNumbers, comparedPlaces, comparedLists, comparedBy, compared};
 
 // The number that a comparison is refused with, or 0: room for any value is never too little.
 fn compare_refusal(left: Shape, right: Shape, a: &[f64], b: &[f64]) -> u8

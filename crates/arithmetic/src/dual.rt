@@ -17,7 +17,7 @@ ghost use Prim.Native.Nat.{_^_, _≤_};
 ghost use lib.ListN.{length};
 ghost use Rattle.masks.specs.Outcome.{Gives, laid};
 ghost use Rattle.arithmetic.specs.Kept.{keptRefusal};
-ghost use Rattle.arithmetic.specs.Duals.{dualOf, dual, antidualOf, antidual, meetingDims, regressiveProduct};
+ghost use Rattle.arithmetic.specs.Dual.{dualOf, dual, antidualOf, antidual, meetingDims, regressiveProduct};
 
 // The number that a call on one value whose shape is kept is refused with, or 0.
 pub(crate) fn kept_refusal(shape: Shape, a: &[f64], room: usize) -> u8

@@ -17,7 +17,7 @@ ghost use lib.Ieee.{nan};
 ghost use lib.ListN.{length, getD, set, take};
 ghost use Rattle.masks.specs.Outcome.{Gives, laid};
 ghost use Rattle.arithmetic.specs.Scalar.{testOf, wasPlanar};
-ghost use Rattle.arithmetic.specs.Kept.{reciprocal};
+ghost use Rattle.arithmetic.specs.Scale.{reciprocal};
 ghost use Rattle.arithmetic.specs.Inverse.{squared, lessScalar, bySquare, nanified, generalInverse, inverseOf, inverse};
 
 // Whether the scalar test answered planar.

@@ -3,7 +3,7 @@ use masks::flavor::Flavor;
 use masks::flavor::Metric;
 use masks::order::order_of;
 use masks::outcome::DONE;
-use masks::outcome::Number;
+use masks::outcome::Real;
 use masks::outcome::value_refusal;
 use masks::shape::Shape;
 ghost use mathlib.Core.Path.{_≡_};
@@ -11,9 +11,9 @@ ghost use Prim.Native.Nat.{_^_, _≤_, _<_};
 ghost use lib.Ieee.{binary64, add};
 ghost use lib.IntN.{_*ℤ_};
 ghost use lib.ListN.{length};
-ghost use Rattle.masks.specs.Flavors.{metricValue};
+ghost use Rattle.masks.specs.Flavor.{metricValue};
 ghost use Rattle.masks.specs.Order.{masksOf};
-ghost use Rattle.arithmetic.specs.Magnitude.{weight, weighed, squaresBelow, squaredMagnitude};
+ghost use Rattle.arithmetic.specs.Magnitude.{weight, weighed, weighedSum, squaredMagnitude};
 
 fn times_metric(m: Metric, n: Metric) -> Metric
     ensures { λ r. ⌜ metricValue r ≡ metricValue m *ℤ metricValue n ⌝ }
@@ -61,7 +61,7 @@ fn add_square(sum: f64, w: Metric, c: f64) -> f64
 // The sum from place 0 up.
 fn sum_squares(flavor: Flavor, dims: u8, masks: &[u16; 512], a: &[f64]) -> f64
     requires { ⌜ (dims ≤ 9) × (now masks ≡ masksOf dims) × (length (now a) ≡ 2 ^ dims) ⌝ }
-    ensures { λ r. ⌜ r ≡ squaresBelow flavor dims (now (a .entry)) (2 ^ dims) ⌝ }
+    ensures { λ r. ⌜ r ≡ weighedSum flavor dims (now (a .entry)) (2 ^ dims) ⌝ }
 {
     // As a slice, of which the proof knows the elements' range.
     let all = &masks[..];
@@ -75,12 +75,12 @@ fn sum_squares(flavor: Flavor, dims: u8, masks: &[u16; 512], a: &[f64]) -> f64
 }
 
 // The squared magnitude of a value.
-pub fn squared_magnitude(shape: Shape, a: &[f64]) -> Number
+pub fn squared_magnitude(shape: Shape, a: &[f64]) -> Real
     ensures { λ r. ⌜ r ≡ squaredMagnitude shape (now (a .entry)) ⌝ }
 {
     let no = value_refusal(shape.dims, a.len());
     if no != DONE {
-        return Number {
+        return Real {
             number: no,
             value: 0.0,
         };
@@ -88,7 +88,7 @@ pub fn squared_magnitude(shape: Shape, a: &[f64]) -> Number
     let o = order_of(shape.dims);
     let flavor = shape.flavor;
     let value = sum_squares(flavor, shape.dims, &o.masks, a);
-    Number {
+    Real {
         number: DONE,
         value,
     }

@@ -17,11 +17,11 @@ ghost use mathlib.Core.Path.{_≡_};
 ghost use Prim.Native.Nat.{_≤_};
 ghost use lib.ListN.{length, take};
 ghost use Rattle.masks.specs.Outcome.{Gives, laid, refusal};
-ghost use Rattle.masks.specs.Shapes.{conformTo, conform};
+ghost use Rattle.masks.specs.Shape.{conformTo, conform};
 ghost use Rattle.product.specs.Products.{generalProduct};
 ghost use Rattle.arithmetic.specs.declared.operators.Sum.the-variants.{Plus, Minus};
-ghost use Rattle.arithmetic.specs.Kept.{scaled};
-ghost use Rattle.arithmetic.specs.Operators.{pairTests, isOther, joinedDims, operatorRefusal, withCoefs, multiply, summed, summedAt0, summedEach, summedPair, addition};
+ghost use Rattle.arithmetic.specs.Scale.{scaled};
+ghost use Rattle.arithmetic.specs.Operators.{pairTests, isOther, joinedDims, operatorRefusal, withCoefs, multiplication, summed, summedAt0, summedEach, summedPair, addition};
 
 // A sum or a difference.
 pub enum Sum {
@@ -104,7 +104,7 @@ fn mul_other(left: Shape, right: Shape, a: &[f64], b: &[f64], out: &mut [f64]) -
 
 // `*`: by a scalar on the right each coefficient is multiplied, with no snap; else the general product.
 pub fn mul(left: Shape, right: Shape, a: &[f64], b: &[f64], out: &mut [f64]) -> Answer
-    ensures { λ r. ⌜ Gives (multiply left right (now (a .entry)) (now (b .entry)) (length (now (out .entry)))) r (now (out .entry)) (now (out .exit)) ⌝ }
+    ensures { λ r. ⌜ Gives (multiplication left right (now (a .entry)) (now (b .entry)) (length (now (out .entry)))) r (now (out .entry)) (now (out .exit)) ⌝ }
 {
     let no = operator_refusal(left, right, a, b, out.len());
     if no != DONE {

@@ -19,13 +19,13 @@ ghost use mathlib.Core.Path.{_≡_};
 ghost use mathlib.Core.Bool.{false, _&&_};
 ghost use Prim.Native.Nat.{_+_, _^_, _≤_, _<_};
 ghost use lib.ListN.{length, take};
-ghost use Rattle.masks.specs.Flavors.{addedDims};
+ghost use Rattle.masks.specs.Flavor.{addedDims};
 ghost use Rattle.masks.specs.Outcome.{Gives, laid};
-ghost use Rattle.masks.specs.Shapes.{withDims};
+ghost use Rattle.masks.specs.Shape.{withDims};
 ghost use Rattle.arithmetic.specs.Scalar.{testOf, wasPlanar};
-ghost use Rattle.arithmetic.specs.Operators.{multiply};
+ghost use Rattle.arithmetic.specs.Operators.{multiplication};
 ghost use Rattle.arithmetic.specs.Inverse.{squared};
-ghost use Rattle.arithmetic.specs.Powers.{isNegative, sizeOf, isDirect, powerDims, byDigits, raisedTo, powerOf, powerRefusal, power};
+ghost use Rattle.arithmetic.specs.Power.{isNegative, sizeOf, isDirect, powerDims, byDigits, raisedTo, powerOf, powerRefusal, power};
 
 // The power's size.
 fn size_of(power: i32) -> u32
@@ -81,7 +81,7 @@ fn power_refusal(shape: Shape, power: i32, a: &[f64], room: usize) -> u8
 fn mul_front(grown: Shape, shape: Shape, x: &[f64], out: &mut [f64])
     requires { ⌜ (grown ≡ withDims shape (shape .dims + addedDims (shape .flavor))) × (grown .dims ≤ 9) ⌝ }
     requires { ⌜ (length (now x) ≡ 2 ^ (shape .dims)) × (2 ^ (grown .dims) ≤ length (now out)) ⌝ }
-    ensures { λ _. ⌜ now (out .exit) ≡ laid (multiply grown shape (take (2 ^ (grown .dims)) (now (out .entry))) (now (x .entry)) 512 .coefs) (now (out .entry)) ⌝ }
+    ensures { λ _. ⌜ now (out .exit) ≡ laid (multiplication grown shape (take (2 ^ (grown .dims)) (now (out .entry))) (now (x .entry)) 512 .coefs) (now (out .entry)) ⌝ }
 {
     let n = blade_count(grown.dims);
     let mut next = [0.0; 512];

@@ -18,8 +18,9 @@ ghost use mathlib.Core.List.{[], _∷_, _++_};
 ghost use Prim.Native.Nat.{_^_, _≤_};
 ghost use lib.ListN.{length};
 ghost use Rattle.masks.specs.Outcome.{Gives, refusal};
-ghost use Rattle.arithmetic.specs.Operators.{pairTests, resultDims, multiply};
-ghost use Rattle.arithmetic.specs.Inverse.{inverseOf, quotient};
+ghost use Rattle.arithmetic.specs.Operators.{pairTests, resultDims, multiplication};
+ghost use Rattle.arithmetic.specs.Inverse.{inverseOf};
+ghost use Rattle.arithmetic.specs.Quotient.{quotient};
 
 // The number of a division by a planar value, which has no inverse here: 5, where no lower one applies.
 fn planar_refusal(left: Shape, right: Shape, a: &[f64], b: &[f64], room: usize) -> u8
@@ -35,7 +36,7 @@ fn planar_refusal(left: Shape, right: Shape, a: &[f64], b: &[f64], room: usize) 
 // The left side times the inverse of the right.
 fn mul_inverse(left: Shape, right: Shape, a: &[f64], b: &[f64], out: &mut [f64]) -> Answer
     requires { ⌜ (right .dims ≤ 9) × (length (now b) ≡ 2 ^ (right .dims)) × (length (inverseOf right (now b)) ≡ 2 ^ (right .dims)) ⌝ }
-    ensures { λ r. ⌜ Gives (multiply left right (now (a .entry)) (inverseOf right (now (b .entry))) (length (now (out .entry)))) r (now (out .entry)) (now (out .exit)) ⌝ }
+    ensures { λ r. ⌜ Gives (multiplication left right (now (a .entry)) (inverseOf right (now (b .entry))) (length (now (out .entry)))) r (now (out .entry)) (now (out .exit)) ⌝ }
 {
     let mut inverse = [0.0; 512];
     put_inverse(right, b, &mut inverse);

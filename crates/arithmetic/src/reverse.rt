@@ -11,7 +11,7 @@ ghost use lib.Ieee.{neg};
 ghost use lib.ListN.{length, take, drop};
 ghost use Rattle.masks.specs.Outcome.{Gives, laid};
 ghost use Rattle.product.specs.Reverse.{reversed};
-ghost use Rattle.arithmetic.specs.Kept.{reverse, invReversed, invReverse};
+ghost use Rattle.arithmetic.specs.Reverse.{reverse, invReversed, invReverse};
 
 // The `count` numbers from the place `first` on are negated.
 fn negate_part(first: usize, count: usize, out: &mut [f64])

@@ -8,7 +8,7 @@ ghost use Prim.Native.Nat.{_≤_};
 ghost use lib.Ieee.{neg};
 ghost use lib.ListN.{length, take};
 ghost use Rattle.masks.specs.Outcome.{Gives, laid};
-ghost use Rattle.arithmetic.specs.Kept.{scaled, mulF64, divF64, negation};
+ghost use Rattle.arithmetic.specs.Scale.{scaled, mulF64, divF64, negation};
 
 // The first n numbers are multiplied, unless by 1.0.
 pub(crate) fn scale(n: usize, f: f64, out: &mut [f64])

@@ -8,15 +8,15 @@ use Rattle.clifford.specs.Blade.{has, count}
 use Rattle.clifford.specs.Sign.{reversal}
 use Rattle.clifford.specs.Metric.{metric}
 use Rattle.clifford.specs.Sum.{sum, δ}
-use Rattle.clifford.specs.Product.{Inverse, multiply, reverse}
+use Rattle.clifford.specs.Product.{Bijection, multiply, reverse}
 use Rattle.clifford.proofs.Ring.{product}
 use Rattle.clifford.proofs.BladeLaws.{xor-assoc, xor-cancel}
 use Rattle.clifford.proofs.MetricLaws.{metric-cocycle, metric-reversal, metric-zero-l, metric-zero-r}
 use Rattle.clifford.proofs.SumLaws.{sum-ext, sum-at}
 use Rattle.clifford.proofs.Twisted.{weighed, times, times-assoc, times-signed, times-at, basis-times, unit-times, times-unit}
 
-module _ (g : ℕ → ℤ) (d : ℕ) (order place : ℕ → ℕ) (inverse : Inverse d order place) where
-  open Inverse inverse using (order-lt, place-lt, order-place, place-order)
+module _ (g : ℕ → ℤ) (d : ℕ) (order place : ℕ → ℕ) (inverse : Bijection d order place) where
+  open Bijection inverse using (order-lt, place-lt, order-place, place-order)
 
   -- Two places meet in the place of their masks' xor.
   abbrev meet : ℕ → ℕ → ℕ

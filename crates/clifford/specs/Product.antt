@@ -8,8 +8,8 @@ use Rattle.clifford.specs.Sign.{reversal}
 use Rattle.clifford.specs.Metric.{metric}
 use Rattle.clifford.specs.Sum.{sum, δ}
 
--- `Inverse d order place` says that they are the order and its inverse for one dimension.
-pub record Inverse (d : ℕ) (order place : ℕ → ℕ) : Type 0 where
+-- `Bijection d order place` says that they are the order and its inverse for one dimension.
+pub record Bijection (d : ℕ) (order place : ℕ → ℕ) : Type 0 where
   pub order-lt : (i : ℕ) → i < 2 ^ d → order i < 2 ^ d
   pub place-lt : (m : ℕ) → m < 2 ^ d → place m < 2 ^ d
   pub order-place : (m : ℕ) → m < 2 ^ d → order (place m) ≡ m

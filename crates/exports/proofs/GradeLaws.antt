@@ -6,9 +6,9 @@ use borrow.Author.Tests.{le-ltb}
 use lib.Ieee.{Float}
 use lib.ListN.{take, drop}
 use Rattle.masks.specs.declared.shape.Shape.{Shape}
-use Rattle.masks.specs.Order.{size, start}
+use Rattle.masks.specs.Order.{size, start, gradeSize}
 use Rattle.masks.specs.Outcome.{refusal, unless}
-use Rattle.masks.specs.Shapes.{gradeRefusal, gradePart, gradeSize}
+use Rattle.masks.specs.Blade.{gradeRefusal, gradePart}
 use Rattle.masks.proofs.RefusalLaws.{unless-done}
 
 -- The count is the size where the dimensions are not refused.

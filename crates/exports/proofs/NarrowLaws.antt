@@ -7,7 +7,7 @@ use Rattle.masks.specs.Order.{order, place, upFrom, taken}
 use Rattle.masks.specs.Outcome.{Outcome, Pair, Written, unless, laid}
 use Rattle.product.specs.Products.{Counted}
 use Rattle.arithmetic.specs.Kept.{Halves}
-use Rattle.sheets.specs.Reading.{ReadOutcome}
+use Rattle.sheets.specs.Read.{ReadOutcome}
 use Rattle.exports.specs.Told.{told, Tells, TellsValue, TellsPair, TellsProduct, TellsTaken, TellsList}
 use Rattle.exports.specs.Parts.{TellsOrderOf, TellsSheet}
 

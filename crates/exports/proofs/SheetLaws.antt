@@ -16,10 +16,10 @@ use Rattle.sheets.specs.declared.shapes.Shapes.{Shapes}
 use Rattle.sheets.specs.declared.shapes.Placed.{Placed}
 use Rattle.sheets.specs.Bytes.{littleEndian, allBytes, section}
 use Rattle.sheets.specs.Format.{Sheet, anyAboveNine, shapeBytes, patternBytes, sheetBytes}
-use Rattle.sheets.specs.Reading.{shapeFrom, readSheet, Reads}
+use Rattle.sheets.specs.Read.{shapeFrom, readSheet, Reads}
 use Rattle.sheets.specs.Shapes.{listedShapes}
 use Rattle.sheets.specs.Values.{valueAt, refusedPlace}
-use Rattle.sheets.specs.Writing.{writeSheet}
+use Rattle.sheets.specs.Write.{writeSheet}
 use Rattle.sheets.proofs.BytesLaws.{littleEndian-length, allBytes-length}
 use Rattle.sheets.proofs.FormatLaws.{shapeBytes-length}
 use Rattle.sheets.proofs.RoundTrips.{sound}

@@ -4,13 +4,12 @@ use Prim.Native.Nat.{ℕ}
 use lib.Ieee.{Float}
 use lib.IntN.{ℤ, pos, negsuc}
 use Rattle.masks.specs.declared.shape.Shape.{Shape}
-use Rattle.masks.specs.Outcome.{shapeOf}
-use Rattle.masks.specs.Shapes.{nought}
+use Rattle.masks.specs.Outcome.{shapeOf, nought}
 use Rattle.arithmetic.specs.declared.outcome.Ordering.{Ordering}
 use Rattle.arithmetic.specs.declared.outcome.Ordering.the-variants.{Less, Equal, Greater}
 use Rattle.arithmetic.specs.declared.scalar.ScalarTest.{ScalarTest}
 use Rattle.arithmetic.specs.declared.scalar.ScalarTest.the-variants.{Scalar, Planar, Neither}
-use Rattle.sheets.specs.Reading.{flavorFrom}
+use Rattle.sheets.specs.Read.{flavorFrom}
 
 -- A shape is dims, kind, p, n, z as in the sheet; any kind above 1 is Cl.
 abbrev pub shaped : ℕ → ℕ → ℕ → ℕ → ℕ → Shape

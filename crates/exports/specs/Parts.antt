@@ -12,10 +12,10 @@ use Rattle.sheets.specs.declared.shapes.Placed.{Placed}
 use Rattle.sheets.specs.Bytes.{parts, allBytes}
 use Rattle.sheets.specs.Format.{anyAboveNine, shapeBytes}
 use Rattle.sheets.specs.declared.read.SheetRead.{SheetRead}
-use Rattle.sheets.specs.Reading.{shapeFrom, ReadOutcome, readOf}
+use Rattle.sheets.specs.Read.{shapeFrom, ReadOutcome, readOf}
 use Rattle.sheets.specs.Shapes.{listedShapes, blankShapes}
 use Rattle.sheets.specs.Values.{valueAt, refusedPlace}
-use Rattle.sheets.specs.Writing.{writeSheet}
+use Rattle.sheets.specs.Write.{writeSheet}
 use Rattle.exports.specs.Told.{Tells}
 
 -- ---- the order

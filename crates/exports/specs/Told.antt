@@ -7,7 +7,7 @@ use lib.IntN.{ℤ}
 use Rattle.masks.specs.declared.outcome.Answer.{Answer}
 use Rattle.masks.specs.declared.outcome.Answers.{Answers}
 use Rattle.masks.specs.declared.outcome.Count.{Count}
-use Rattle.masks.specs.declared.outcome.Number.{Number}
+use Rattle.masks.specs.declared.outcome.Real.{Real}
 use Rattle.masks.specs.declared.text.Read.{Read}
 use Rattle.masks.specs.Outcome.{Outcome, Pair, Written, answerOf, answersOf, countOf, unless, laid}
 use Rattle.product.specs.declared.outcome.Product.{Product}
@@ -43,7 +43,7 @@ TellsAnswers o = Tells (o .number) (shapeBytes (o .left) ++ shapeBytes (o .right
 abbrev pub TellsCount : Count → ℕ → ℕ → ℕ → Type 0
 TellsCount o = Tells (o .number) (o .count)
 
-abbrev pub TellsNumber : Number → ℕ → Float → Float → Type 0
+abbrev pub TellsNumber : Real → ℕ → Float → Float → Type 0
 TellsNumber o = Tells (o .number) (o .value)
 
 abbrev pub TellsFlavor : Read → ℕ → List ℕ → List ℕ → Type 0

@@ -9,7 +9,7 @@ ghost use mathlib.Core.List.{[], _∷_};
 ghost use Prim.Native.Nat.{_≤_};
 ghost use lib.ListN.{length};
 ghost use Rattle.masks.specs.Order.{start, size};
-ghost use Rattle.masks.specs.Shapes.{getBlade, setBlade, gradeRefusal};
+ghost use Rattle.masks.specs.Blade.{getBlade, setBlade, gradeRefusal};
 ghost use Rattle.exports.specs.Numbers.{shaped};
 ghost use Rattle.exports.specs.Told.{Tells, TellsNumber, TellsValue};
 

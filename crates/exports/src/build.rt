@@ -9,8 +9,8 @@ use masks::build::scalar;
 use masks::build::vector;
 ghost use mathlib.Core.List.{[], _∷_};
 ghost use lib.ListN.{length};
-ghost use Rattle.masks.specs.Build.{vector, n1Blades, scalar, pseudoscalar, bladesOf};
-ghost use Rattle.sheets.specs.Reading.{flavorFrom};
+ghost use Rattle.masks.specs.Build.{vector, n1Blades, scalar, pseudoscalar, bladesOfSide};
+ghost use Rattle.sheets.specs.Read.{flavorFrom};
 ghost use Rattle.exports.specs.Told.{TellsValue};
 
 // A value from the numbers of its first grade.
@@ -115,7 +115,7 @@ pub extern "C" fn thresholm_blades_left(
     to_n: &mut u8,
     to_z: &mut u8,
 ) -> u8
-    ensures { λ r. ⌜ TellsValue (bladesOf 0 dims (now (v .entry)) (flavorFrom kind p n z) (length (now (out .entry)))) r (now (out .entry)) (now (out .exit)) (now («to_dims» .entry) ∷ now («to_kind» .entry) ∷ now («to_p» .entry) ∷ now («to_n» .entry) ∷ now («to_z» .entry) ∷ []) (now («to_dims» .exit) ∷ now («to_kind» .exit) ∷ now («to_p» .exit) ∷ now («to_n» .exit) ∷ now («to_z» .exit) ∷ []) ⌝ }
+    ensures { λ r. ⌜ TellsValue (bladesOfSide 0 dims (now (v .entry)) (flavorFrom kind p n z) (length (now (out .entry)))) r (now (out .entry)) (now (out .exit)) (now («to_dims» .entry) ∷ now («to_kind» .entry) ∷ now («to_p» .entry) ∷ now («to_n» .entry) ∷ now («to_z» .entry) ∷ []) (now («to_dims» .exit) ∷ now («to_kind» .exit) ∷ now («to_p» .exit) ∷ now («to_n» .exit) ∷ now («to_z» .exit) ∷ []) ⌝ }
 {
     let answer = blades_left(dims, v, flavor_from(kind, p, n, z), out);
     tell(answer, to_dims, to_kind, to_p, to_n, to_z)
@@ -137,7 +137,7 @@ pub extern "C" fn thresholm_blades_right(
     to_n: &mut u8,
     to_z: &mut u8,
 ) -> u8
-    ensures { λ r. ⌜ TellsValue (bladesOf 1 dims (now (v .entry)) (flavorFrom kind p n z) (length (now (out .entry)))) r (now (out .entry)) (now (out .exit)) (now («to_dims» .entry) ∷ now («to_kind» .entry) ∷ now («to_p» .entry) ∷ now («to_n» .entry) ∷ now («to_z» .entry) ∷ []) (now («to_dims» .exit) ∷ now («to_kind» .exit) ∷ now («to_p» .exit) ∷ now («to_n» .exit) ∷ now («to_z» .exit) ∷ []) ⌝ }
+    ensures { λ r. ⌜ TellsValue (bladesOfSide 1 dims (now (v .entry)) (flavorFrom kind p n z) (length (now (out .entry)))) r (now (out .entry)) (now (out .exit)) (now («to_dims» .entry) ∷ now («to_kind» .entry) ∷ now («to_p» .entry) ∷ now («to_n» .entry) ∷ now («to_z» .entry) ∷ []) (now («to_dims» .exit) ∷ now («to_kind» .exit) ∷ now («to_p» .exit) ∷ now («to_n» .exit) ∷ now («to_z» .exit) ∷ []) ⌝ }
 {
     let answer = blades_right(dims, v, flavor_from(kind, p, n, z), out);
     tell(answer, to_dims, to_kind, to_p, to_n, to_z)

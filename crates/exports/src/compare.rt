@@ -4,7 +4,7 @@ use super::tell::tell_order;
 use super::tell::tell_yes;
 use arithmetic::compare::cmp;
 use arithmetic::compare::eq;
-ghost use Rattle.arithmetic.specs.Comparison.{equals, compared};
+ghost use Rattle.arithmetic.specs.Compare.{equals, compared};
 ghost use Rattle.exports.specs.Numbers.{shaped};
 ghost use Rattle.exports.specs.Told.{TellsYesNo, TellsOrder};
 

@@ -10,11 +10,11 @@ use masks::shape::promotion;
 ghost use mathlib.Core.Path.{_≡_};
 ghost use mathlib.Core.List.{[], _∷_};
 ghost use lib.ListN.{length};
-ghost use Rattle.masks.specs.Flavors.{metricOf, nullFlavor, addedDims};
-ghost use Rattle.masks.specs.Shapes.{promotes};
+ghost use Rattle.masks.specs.Flavor.{metricOf, nullFlavor, addedDims};
+ghost use Rattle.masks.specs.Shape.{promotes};
 ghost use Rattle.masks.specs.Text.{readFlavor, writeFlavor};
 ghost use Rattle.sheets.specs.Format.{flavorBytes};
-ghost use Rattle.sheets.specs.Reading.{flavorFrom};
+ghost use Rattle.sheets.specs.Read.{flavorFrom};
 ghost use Rattle.exports.specs.Told.{TellsFlavor, TellsList};
 
 // What the basis vector of an index squares to.

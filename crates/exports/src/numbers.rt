@@ -5,8 +5,8 @@ use masks::flavor::Metric;
 use masks::outcome::shape_of;
 use masks::shape::Shape;
 ghost use mathlib.Core.Path.{_≡_};
-ghost use Rattle.masks.specs.Flavors.{metricValue};
-ghost use Rattle.sheets.specs.Reading.{flavorFrom};
+ghost use Rattle.masks.specs.Flavor.{metricValue};
+ghost use Rattle.sheets.specs.Read.{flavorFrom};
 ghost use Rattle.exports.specs.Numbers.{shaped, yesNumber, orderNumber};
 
 // Kind 0 is Vanilla, 1 Projective, and any other is taken for Cl.

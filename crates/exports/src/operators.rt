@@ -11,9 +11,9 @@ use arithmetic::scale::neg;
 ghost use mathlib.Core.List.{[], _∷_};
 ghost use lib.ListN.{length};
 ghost use Rattle.arithmetic.specs.declared.operators.Sum.the-variants.{Plus, Minus};
-ghost use Rattle.arithmetic.specs.Operators.{multiply, addition};
-ghost use Rattle.arithmetic.specs.Inverse.{quotient};
-ghost use Rattle.arithmetic.specs.Kept.{mulF64, divF64, negation};
+ghost use Rattle.arithmetic.specs.Operators.{multiplication, addition};
+ghost use Rattle.arithmetic.specs.Quotient.{quotient};
+ghost use Rattle.arithmetic.specs.Scale.{mulF64, divF64, negation};
 ghost use Rattle.exports.specs.Numbers.{shaped};
 ghost use Rattle.exports.specs.Told.{TellsValue};
 
@@ -39,7 +39,7 @@ pub extern "C" fn thresholm_mul(
     to_n: &mut u8,
     to_z: &mut u8,
 ) -> u8
-    ensures { λ r. ⌜ TellsValue (multiply (shaped dims kind p n z) (shaped «dims_right» «kind_right» «p_right» «n_right» «z_right») (now (a .entry)) (now (b .entry)) (length (now (out .entry)))) r (now (out .entry)) (now (out .exit)) (now («to_dims» .entry) ∷ now («to_kind» .entry) ∷ now («to_p» .entry) ∷ now («to_n» .entry) ∷ now («to_z» .entry) ∷ []) (now («to_dims» .exit) ∷ now («to_kind» .exit) ∷ now («to_p» .exit) ∷ now («to_n» .exit) ∷ now («to_z» .exit) ∷ []) ⌝ }
+    ensures { λ r. ⌜ TellsValue (multiplication (shaped dims kind p n z) (shaped «dims_right» «kind_right» «p_right» «n_right» «z_right») (now (a .entry)) (now (b .entry)) (length (now (out .entry)))) r (now (out .entry)) (now (out .exit)) (now («to_dims» .entry) ∷ now («to_kind» .entry) ∷ now («to_p» .entry) ∷ now («to_n» .entry) ∷ now («to_z» .entry) ∷ []) (now («to_dims» .exit) ∷ now («to_kind» .exit) ∷ now («to_p» .exit) ∷ now («to_n» .exit) ∷ now («to_z» .exit) ∷ []) ⌝ }
 {
     let answer = mul(
         shape_from(dims, kind, p, n, z),

@@ -7,13 +7,11 @@ use masks::outcome::DONE;
 use masks::outcome::NO_ROOM;
 ghost use mathlib.Core.Path.{_≡_};
 ghost use Prim.Native.Nat.{_≤_};
-ghost use lib.ListN.{length};
+ghost use lib.ListN.{length, take};
 ghost use Rattle.masks.specs.Outcome.{laid};
-ghost use Rattle.masks.specs.Order.{bladeCount};
-ghost use Rattle.masks.specs.Shapes.{gradeSize};
+ghost use Rattle.masks.specs.Order.{bladeCount, gradeSize};
 ghost use Rattle.exports.specs.Told.{TellsCount};
 ghost use Rattle.exports.specs.Parts.{TellsOrderOf};
-ghost use lib.ListN.{take};
 
 // The first n of an array's masks or places, from the front of an output.
 fn copy_masks(from: &[u16; 512], n: usize, to: &mut [u16])

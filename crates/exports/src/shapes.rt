@@ -7,9 +7,9 @@ use super::tell::tell_shape;
 ghost use mathlib.Core.Path.{_≡_};
 ghost use mathlib.Core.List.{[], _∷_};
 ghost use lib.ListN.{length};
-ghost use Rattle.masks.specs.Shapes.{withDims, withFlavor, setDims, setFlavor, conformTo, conform};
+ghost use Rattle.masks.specs.Shape.{withDims, withFlavor, setDims, setFlavor, conformTo, conform};
 ghost use Rattle.sheets.specs.Format.{shapeBytes};
-ghost use Rattle.sheets.specs.Reading.{flavorFrom};
+ghost use Rattle.sheets.specs.Read.{flavorFrom};
 ghost use Rattle.exports.specs.Numbers.{shaped};
 ghost use Rattle.exports.specs.Told.{TellsValue, TellsPair};
 

@@ -14,18 +14,14 @@ use sheets::write::write;
 ghost use mathlib.Core.Path.{_≡_};
 ghost use mathlib.Core.Bool.{cond};
 ghost use mathlib.Core.List.{[], _∷_};
-ghost use Prim.Native.Nat.{_≤_};
-ghost use lib.ListN.{length};
+ghost use Prim.Native.Nat.{_≤_, _+_};
+ghost use lib.ListN.{length, take, drop};
 ghost use Rattle.sheets.specs.Format.{anyAboveNine};
-ghost use Rattle.sheets.specs.Reading.{readSheet};
+ghost use Rattle.sheets.specs.Read.{readSheet, shapeFrom};
 ghost use Rattle.sheets.specs.Shapes.{listedShapes};
 ghost use Rattle.sheets.specs.Patterns.{numbersOf, patternsOf};
 ghost use Rattle.exports.specs.Told.{TellsPlace, TellsList};
-ghost use Rattle.exports.specs.Parts.{writeFrom, valueFrom, TellsSheet};
-ghost use Prim.Native.Nat.{_+_};
-ghost use lib.ListN.{take, drop};
-ghost use Rattle.sheets.specs.Reading.{shapeFrom};
-ghost use Rattle.exports.specs.Parts.{saidShapes};
+ghost use Rattle.exports.specs.Parts.{writeFrom, valueFrom, TellsSheet, saidShapes};
 
 // The shape that five bytes say.
 fn shape_at(bytes: &[u8], at: usize) -> Shape

@@ -11,7 +11,7 @@ use masks::outcome::Answer;
 use masks::outcome::Answers;
 use masks::outcome::Count;
 use masks::outcome::DONE;
-use masks::outcome::Number;
+use masks::outcome::Real;
 use masks::shape::Shape;
 use masks::text::Read;
 use product::outcome::Product;
@@ -140,7 +140,7 @@ pub(crate) fn tell_count(answer: Count, to_count: &mut usize) -> u8
 }
 
 // A number.
-pub(crate) fn tell_number(answer: Number, to_value: &mut f64) -> u8
+pub(crate) fn tell_number(answer: Real, to_value: &mut f64) -> u8
     ensures { λ r. ⌜ TellsNumber answer r (now («to_value» .entry)) (now («to_value» .exit)) ⌝ }
 {
     let number = answer.number;

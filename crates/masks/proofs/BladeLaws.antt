@@ -11,10 +11,11 @@ use lib.Dec.{ltb}
 use lib.Ieee.{Float, nan}
 use lib.ListN.{length, set, take, drop, length-set}
 use lib.Seq.{set-append-left, getD-set-same}
-use Rattle.masks.specs.Outcome.{Test, refusal, tooMany, wrongCount, noRoom, refusedValue, value, laid}
+use Rattle.masks.specs.Outcome.{Test, refusal, tooMany, wrongCount, noRoom, refusedValue, value, laid, refusedReal}
 use Rattle.masks.specs.declared.shape.Shape.{Shape}
 use Rattle.masks.specs.Order.{place}
-use Rattle.masks.specs.Shapes.{coef, withDims, resized, refusedNumber, getBlade, bladeDims, withBlade, setBlade, gradeRefusal}
+use Rattle.masks.specs.Shape.{coef, withDims, resized}
+use Rattle.masks.specs.Blade.{getBlade, bladeDims, withBlade, setBlade, gradeRefusal}
 use Rattle.masks.proofs.ListLaws.{split}
 use Rattle.masks.proofs.OrderLaws.{place-lt}
 use Rattle.masks.proofs.RefusalLaws.{past, refused-later, unless-done}
@@ -180,7 +181,7 @@ blade-got d m x a l h e =
 pub get-blade-done : (s : Shape) (m : ℕ) (a : List Float) → Valued (s .dims) (length a) → getBlade s m a ≡ record { number = 0; value = coef (s .dims) a m }
 unfolding getBlade refusal
 get-blade-done s m a v =
-    unless-done refusedNumber (refusal (tooMany (s .dims) ∷ wrongCount (length a) (s .dims) ∷ [])) 0 _ (sym (value-passes (s .dims) (length a) [] v)) refl
+    unless-done refusedReal (refusal (tooMany (s .dims) ∷ wrongCount (length a) (s .dims) ∷ [])) 0 _ (sym (value-passes (s .dims) (length a) [] v)) refl
 
 -- after an accepted call the mask has the number that was set
 pub get-set : (s : Shape) (m : ℕ) (x : Float) (a : List Float) (room : ℕ) → setBlade s m x a room .number ≡ 0 → getBlade (setBlade s m x a room .shape) m (setBlade s m x a room .coefs) ≡ record { number = 0; value = x }

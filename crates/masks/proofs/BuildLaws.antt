@@ -18,10 +18,9 @@ use Rattle.masks.specs.declared.flavor.Flavor.{Flavor}
 use Rattle.masks.specs.declared.flavor.Flavor.the-variants.{Vanilla}
 use Rattle.masks.specs.declared.build.Packing.{Packing}
 use Rattle.masks.specs.declared.build.Packing.the-variants.{Full, Half, Grade, Nothing}
-use Rattle.masks.specs.Order.{grade, below, order, size, start}
-use Rattle.masks.specs.Outcome.{refusal, tooMany, noRoom, value, refusedValue, shapeOf}
-use Rattle.masks.specs.Shapes.{nought}
-use Rattle.masks.specs.Build.{padded, atGrade, builtRefusal, oneGrade, n1Blades, firstGrade, sideStart, sideEnd, packing, unpacked, ofParity, spread, packed, bladesOf}
+use Rattle.masks.specs.Order.{grade, gradesBelow, order, size, start}
+use Rattle.masks.specs.Outcome.{refusal, tooMany, noRoom, value, refusedValue, shapeOf, nought}
+use Rattle.masks.specs.Build.{padded, atGrade, builtRefusal, oneGrade, n1Blades, firstGrade, sideStart, sideEnd, packing, unpacked, ofParity, spread, packed, bladesOfSide}
 use Rattle.masks.specs.Unpack.{choose}
 use Rattle.masks.proofs.ListLaws.{getD-past}
 use Rattle.masks.proofs.OrderLaws.{length-grade, length-order, grade-at, size-zero, start-all, size-above, part-fits}
@@ -159,24 +158,24 @@ module _ (odd g : ℕ) where
 
 -- how many masks of one parity stand in the grades below g
 counted : ℕ → ℕ → ℕ → ℕ
-counted odd d g = length (choose odd (below d g))
+counted odd d g = length (choose odd (gradesBelow d g))
 
 module _ (odd d g : ℕ) where
   all-grade : AllOf g (grade d g)
   all-grade k l = grade-at d g k (omega (arith, length-grade d g)) .counted
 
   counted-has : g % 2 ≡ odd → counted odd d (suc g) ≡ counted odd d g + size d g
-  unfolding counted below
+  unfolding counted gradesBelow
   counted-has e =
       simp (choose-append, choose-all odd g (grade d g) e all-grade, length-append, length-grade)
 
   counted-lacks : (g % 2 ≡ odd → ⊥) → counted odd d (suc g) ≡ counted odd d g
-  unfolding counted below
+  unfolding counted gradesBelow
   counted-lacks e =
       simp (choose-append, choose-none odd g (grade d g) e all-grade, length-append) (omega arith)
 
 counted-zero : (odd d : ℕ) → counted odd d 0 ≡ 0
-unfolding counted below choose
+unfolding counted gradesBelow choose
 counted-zero odd d = refl
 
 -- a grade of d + 1 dimensions is as large as two grades of d dimensions that follow one another
@@ -444,17 +443,17 @@ unfolding n1Blades oneGrade
 n1-one v f room m = rw (enough (length v) room m)
 
 module _ (odd d : ℕ) (v : List Float) (f : Flavor) (room : ℕ) (h : d ≤ 9) (l : 2 ^ d ≤ room) where
-  packed-built : (p : Packing) → packing odd d (length v) ≡ p → unpacked p ≡ false → bladesOf odd d v f room ≡ packed p odd d v f
-  unfolding bladesOf
+  packed-built : (p : Packing) → packing odd d (length v) ≡ p → unpacked p ≡ false → bladesOfSide odd d v f room ≡ packed p odd d v f
+  unfolding bladesOfSide
   packed-built p e u = rw e (unless-done refusedValue _ 0 _ (sym (pack-done d p room h u l)) refl)
 
   -- a full set is taken as it stands and becomes Vanilla
-  pub full-built : length v ≡ 2 ^ d → bladesOf odd d v f room ≡ value (shapeOf d Vanilla) v
+  pub full-built : length v ≡ 2 ^ d → bladesOfSide odd d v f room ≡ value (shapeOf d Vanilla) v
   full-built e = packed-built Full (packing-full odd d (length v) e) refl
 
-  pub half-built : 2 * length v ≡ 2 ^ d → bladesOf odd d v f room ≡ value (shapeOf d f) (spread odd (order d) v)
+  pub half-built : 2 * length v ≡ 2 ^ d → bladesOfSide odd d v f room ≡ value (shapeOf d f) (spread odd (order d) v)
   half-built e =
       packed-built Half (packing-half odd d (length v) (λ q. omega (arith, pow-pos d)) e) refl
 
-  pub grade-built : (g : ℕ) → packing odd d (length v) ≡ Grade g → bladesOf odd d v f room ≡ value (shapeOf d f) (atGrade d g v)
+  pub grade-built : (g : ℕ) → packing odd d (length v) ≡ Grade g → bladesOfSide odd d v f room ≡ value (shapeOf d f) (atGrade d g v)
   grade-built g e = packed-built (Grade g) e refl

@@ -14,7 +14,7 @@ use Rattle.masks.specs.declared.flavor.Flavor.the-variants.{Vanilla, Pro
 use Rattle.masks.specs.declared.shape.Shape.{Shape}
 use Rattle.masks.specs.Order.{bladeCount}
 use Rattle.masks.specs.Outcome.{Test, refusal, tooMany, wrongCount, noRoom, unless, laid, Outcome, shapeOf, refusedValue, value, Pair, refusedPair}
-use Rattle.masks.specs.Shapes.{withDims, resized, setDims, promotes, promoted, setFlavor, conformed, promotedFlavor, conformedShape, conform}
+use Rattle.masks.specs.Shape.{withDims, resized, setDims, promotes, promoted, setFlavor, conformed, promotedFlavor, conformedShape, conform}
 use Rattle.masks.proofs.ListLaws.{take-laid}
 use Rattle.masks.proofs.RefusalLaws.{past, Taken, taken, later-same, needed-same, unless-done}
 use Rattle.masks.proofs.ShapeLaws.{count-small, one, resized-length, resized-same, resized-back, promoted-length}

@@ -5,7 +5,7 @@ use lib.IntN.{pos}
 use borrow.Author.Tests.{lt-ltb}
 use Rattle.masks.specs.declared.flavor.Metric.{Metric}
 use Rattle.masks.specs.declared.flavor.Metric.the-variants.{Minus, Zero, Plus}
-use Rattle.masks.specs.Flavors.{metricValue, metricOf, nullFlavor}
+use Rattle.masks.specs.Flavor.{metricValue, metricOf, nullFlavor}
 
 -- a metric is known by its number
 pub metric-one : {r s : Metric} → metricValue r ≡ metricValue s → r ≡ s

@@ -15,8 +15,8 @@ use lib.Pow.{pow-mono}
 use lib.Seq.{length-take-le, getD-take, getD-drop, ext-getD}
 use Rattle.masks.specs.declared.order.Order.{Order}
 use Rattle.masks.specs.Order.{order, place, masksOf, placesOf, orderFor, taken, bladeCount}
-use Rattle.masks.specs.Outcome.{laid}
-use Rattle.masks.specs.Shapes.{nought, coef, negatedIf, moved, turnedMask, resized, lowered, promoted}
+use Rattle.masks.specs.Outcome.{laid, nought}
+use Rattle.masks.specs.Shape.{coef, negatedIf, moved, turnedMask, resized, lowered, promoted}
 use Rattle.masks.proofs.ListLaws.{split, getD-map, take-laid}
 use Rattle.masks.proofs.OrderLaws.{length-order, order-at, order-place, place-lt, blades-le, take-masks}
 

@@ -8,10 +8,10 @@ use lib.Ieee.{Float, fin, neg}
 use lib.IntN.{pos}
 use lib.ListN.{replicate}
 use Rattle.masks.specs.declared.flavor.Flavor.the-variants.{Vanilla, Projective}
-use Rattle.masks.specs.Order.{order, below, grade, place, start, size, rank}
-use Rattle.masks.specs.Outcome.{shapeOf, value, unless, refusal}
-use Rattle.masks.specs.Shapes.{nought, coef, turnedMask, resized, setDims, promotes, promoted, setFlavor}
-use Rattle.masks.specs.Build.{bladesOf, packing, spread}
+use Rattle.masks.specs.Order.{order, gradesBelow, grade, place, start, size, rank}
+use Rattle.masks.specs.Outcome.{shapeOf, value, unless, refusal, nought}
+use Rattle.masks.specs.Shape.{coef, turnedMask, resized, setDims, promotes, promoted, setFlavor}
+use Rattle.masks.specs.Build.{bladesOfSide, packing, spread}
 
 -- 1, 5 and 7 as floats
 abbrev one : Float
@@ -30,13 +30,13 @@ only n x k = replicate n nought ++ x ∷ replicate k nought
 pub record Rows : Type 0 where
   pub order-of-3 : order 3 ≡ 0 ∷ 1 ∷ 2 ∷ 4 ∷ 3 ∷ 5 ∷ 6 ∷ 7 ∷ []
   pub order-of-4 : order 4 ≡ 0 ∷ 1 ∷ 2 ∷ 4 ∷ 8 ∷ 3 ∷ 5 ∷ 9 ∷ 6 ∷ 10 ∷ 12 ∷ 7 ∷ 11 ∷ 13 ∷ 14 ∷ 15 ∷ []
-  pub left-half : bladesOf 0 2 (five ∷ seven ∷ []) Vanilla 4 ≡ value (shapeOf 2 Vanilla) (five ∷ nought ∷ nought ∷ seven ∷ [])
-  pub right-half : bladesOf 1 2 (five ∷ seven ∷ []) Vanilla 4 ≡ value (shapeOf 2 Vanilla) (nought ∷ five ∷ seven ∷ nought ∷ [])
+  pub left-half : bladesOfSide 0 2 (five ∷ seven ∷ []) Vanilla 4 ≡ value (shapeOf 2 Vanilla) (five ∷ nought ∷ nought ∷ seven ∷ [])
+  pub right-half : bladesOfSide 1 2 (five ∷ seven ∷ []) Vanilla 4 ≡ value (shapeOf 2 Vanilla) (nought ∷ five ∷ seven ∷ nought ∷ [])
   pub e31-grown : setDims (shapeOf 3 Vanilla) 4 (only 5 one 2) 16 ≡ value (shapeOf 4 Vanilla) (only 6 (neg one) 9)
   pub e31-promoted : setFlavor (shapeOf 3 Vanilla) Projective (only 5 one 2) 16 ≡ value (shapeOf 4 Projective) (only 9 one 6)
 
 pub table : Rows
-unfolding order below grade place start size rank ones onesIn neg unless refusal bladesOf packing spread setDims setFlavor promotes promoted resized turnedMask coef
+unfolding order gradesBelow grade place start size rank ones onesIn neg unless refusal bladesOfSide packing spread setDims setFlavor promotes promoted resized turnedMask coef
 table =
     record {
       order-of-3 = refl;

@@ -19,18 +19,18 @@ use Rattle.masks.specs.declared.flavor.Flavor.{Flavor}
 use Rattle.masks.specs.declared.flavor.Flavor.the-variants.{Vanilla}
 use Rattle.masks.specs.declared.build.Packing.the-variants.{Grade}
 use Rattle.masks.specs.Order.{order, size, start, rank, place, held, masksOf, orderFor, taken}
-use Rattle.masks.specs.Outcome.{Outcome, shapeOf, refusal, unless, laid, refusedList, listed, countOf}
-use Rattle.masks.specs.Flavors.{addedDims}
-use Rattle.masks.specs.Shapes.{nought, coef, moved, getBlade, gradeRefusal, gradePart}
-use Rattle.masks.specs.Build.{padded, atGrade, oneGrade, vector, n1Blades, scalar, pseudoscalar, packing, ofParity, spread, bladesOf}
+use Rattle.masks.specs.Outcome.{Outcome, shapeOf, refusal, unless, laid, refusedList, listed, countOf, nought}
+use Rattle.masks.specs.Flavor.{addedDims}
+use Rattle.masks.specs.Shape.{coef, moved}
+use Rattle.masks.specs.Blade.{getBlade, gradeRefusal, gradePart}
+use Rattle.masks.specs.Build.{padded, atGrade, oneGrade, vector, n1Blades, scalar, pseudoscalar, packing, ofParity, spread, bladesOfSide}
 use Rattle.masks.specs.Unpack.{choose, halfMasks, unpackRefusal, unpackAll, halfOf, unpackHalf, unpackOwnHalf, unpackVector}
 use Rattle.masks.proofs.OrderLaws.{length-order, size-zero, grade-has, place-lt, order-place, order-at, blades-le, take-masks}
 use Rattle.masks.proofs.RefusalLaws.{unless-done}
 use Rattle.masks.proofs.ShapeLaws.{holds-masks, coef-inside, coef-outside, moved-other, ordered}
 use Rattle.masks.proofs.ChangeLaws.{passes}
 use Rattle.masks.proofs.BladeLaws.{get-blade-done}
-use Rattle.masks.proofs.BuildLaws.{padded-at, lt-blades, start-one, size-one, size-last, size-before-last, grade-fits, vector-fits, length-grade-set, choose-has, choose-lacks, choose-le, choose-next, choose-skip, half-count}
-use Rattle.masks.proofs.BuildLaws.{half-twice, half-some, length-half-set, spread-has, spread-lacks, Packs, packing-fits, one-built, n1-one, full-built, half-built, grade-built}
+use Rattle.masks.proofs.BuildLaws.{padded-at, lt-blades, start-one, size-one, size-last, size-before-last, grade-fits, vector-fits, length-grade-set, choose-has, choose-lacks, choose-le, choose-next, choose-skip, half-count, half-twice, half-some, length-half-set, spread-has, spread-lacks, Packs, packing-fits, one-built, n1-one, full-built, half-built, grade-built}
 
 -- ---- masks chosen one after the other
 
@@ -351,7 +351,7 @@ module _ (d : ℕ) (x : Float) (f : Flavor) (room : ℕ) (h : d + addedDims f �
 -- blades on the left (0), with even unpacking, and on the right (1), with odd unpacking
 module _ (odd d : ℕ) (v : List Float) (f : Flavor) (room : ℕ) (h : d ≤ 9) (l : 2 ^ d ≤ room) where
   abbrev built : Outcome
-  built = bladesOf odd d v f room
+  built = bladesOfSide odd d v f room
 
   pub full-round : (into : ℕ) → length v ≡ 2 ^ d → 2 ^ d ≤ into → unpackAll (built .shape) d (built .coefs) into ≡ listed v
   full-round into e m =

@@ -11,9 +11,8 @@ use Rattle.masks.specs.declared.flavor.Flavor.the-variants.{Vanilla}
 use Rattle.masks.specs.declared.build.Packing.{Packing}
 use Rattle.masks.specs.declared.build.Packing.the-variants.{Full, Half, Grade, Nothing}
 use Rattle.masks.specs.Order.{order, size, start}
-use Rattle.masks.specs.Outcome.{Outcome, refusal, tooMany, noRoom, unless, value, refusedValue, shapeOf}
-use Rattle.masks.specs.Flavors.{addedDims}
-use Rattle.masks.specs.Shapes.{nought}
+use Rattle.masks.specs.Outcome.{Outcome, refusal, tooMany, noRoom, unless, value, refusedValue, shapeOf, nought}
+use Rattle.masks.specs.Flavor.{addedDims}
 
 -- `padded first v n` has n numbers: those of v from the place `first` on, and +0 elsewhere.
 unfoldable pub padded : ℕ → List Float → ℕ → List Float
@@ -96,9 +95,9 @@ packed Half odd d v f = value (shapeOf d f) (spread odd (order d) v)
 packed (Grade g) odd d v f = value (shapeOf d f) (atGrade d g v)
 packed Nothing odd d v f = refusedValue 2
 
--- `bladesOf` is `blades_left` (0) and `blades_right` (1), and refuses 2 where no packing fits.
-unfoldable pub bladesOf : ℕ → ℕ → List Float → Flavor → ℕ → Outcome
-bladesOf odd d v f room =
+-- `bladesOfSide` is `blades_left` (0) and `blades_right` (1), and refuses 2 where no packing fits.
+unfoldable pub bladesOfSide : ℕ → ℕ → List Float → Flavor → ℕ → Outcome
+bladesOfSide odd d v f room =
     let p = packing odd d (length v) in
     unless refusedValue (refusal (tooMany d ∷ record { fails = unpacked p; number = 2 } ∷ noRoom room (2 ^ d) ∷ []))
     (packed p odd d v f)

@@ -1,9 +1,10 @@
--- The definitions that the contracts of `masks` cite.
-pub mod Order
-pub mod Passes
+-- The definitions that the contracts of `masks` cite; those of private functions alone stand in inner.
 pub mod Outcome
-pub mod Flavors
+pub mod Order
+pub mod Flavor
 pub mod Text
-pub mod Shapes
+pub mod Shape
+pub mod Blade
 pub mod Build
 pub mod Unpack
+pub mod inner

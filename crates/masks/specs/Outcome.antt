@@ -1,10 +1,11 @@
 -- What a call gives: its number, its results, and what it writes from the front of a lent output. Assumes nothing.
 use mathlib.Core.Path.{_≡_}
-use mathlib.Core.Bool.{Bool, not, cond}
+use mathlib.Core.Bool.{Bool, false, not, cond}
 use mathlib.Core.List.{List, [], _∷_, _++_}
 use Prim.Native.Nat.{ℕ, zero, suc, _^_}
 use lib.Dec.{eqb, ltb}
-use lib.Ieee.{Float}
+use lib.Ieee.{Float, fin}
+use lib.IntN.{pos}
 use lib.ListN.{length, drop}
 use Rattle.masks.specs.declared.flavor.Flavor.{Flavor}
 use Rattle.masks.specs.declared.flavor.Flavor.the-variants.{Vanilla}
@@ -12,6 +13,7 @@ use Rattle.masks.specs.declared.shape.Shape.{Shape}
 use Rattle.masks.specs.declared.outcome.Answer.{Answer}
 use Rattle.masks.specs.declared.outcome.Answers.{Answers}
 use Rattle.masks.specs.declared.outcome.Count.{Count}
+use Rattle.masks.specs.declared.outcome.Real.{Real}
 
 -- ---- refusals
 
@@ -122,3 +124,17 @@ countOf o = record { number = o .number; count = length (o .items) }
 pub record Writes {A : Type 0} (o : Written A) (r : Count) (before after : List A) : Type 0 where
   pub counted : r ≡ countOf o
   pub left : after ≡ laid (o .items) before
+
+-- A refusal's count is 0.
+abbrev pub refusedCount : ℕ → Count
+refusedCount k = record { number = k; count = 0 }
+
+-- ---- one number
+
+-- `nought` is +0.
+abbrev pub nought : Float
+nought = fin false 0 (pos 0)
+
+-- A refusal has its number, and the value 0.
+abbrev pub refusedReal : ℕ → Real
+refusedReal k = record { number = k; value = nought }

@@ -159,9 +159,9 @@ writeFlavor f room = unless refusedList (refusal (noRoom room (length (textOf f)
 
 -- ---- tests of a byte
 
--- `passes test c` says whether the byte c passes the test. Only contracts of private functions cite it.
-abbrev pub passes : ByteTest → ℕ → Bool
-passes Ascii = λ c. leb c 127
-passes Blank = blank
-passes Separator = separator
-passes InPart = inPart
+-- `passesTest test c` says whether the byte c passes the test. Only contracts of private functions cite it.
+abbrev pub passesTest : ByteTest → ℕ → Bool
+passesTest Ascii = λ c. leb c 127
+passesTest Blank = blank
+passesTest Separator = separator
+passesTest InPart = inPart

@@ -8,7 +8,7 @@ use lib.ListN.{length, take, drop}
 use Rattle.masks.specs.declared.shape.Shape.{Shape}
 use Rattle.masks.specs.Order.{order}
 use Rattle.masks.specs.Outcome.{Written, refusal, tooMany, wrongCount, noRoom, unless, refusedList, listed}
-use Rattle.masks.specs.Shapes.{coef}
+use Rattle.masks.specs.Shape.{coef}
 use Rattle.masks.specs.Build.{ofParity}
 
 -- `choose` keeps the masks of one parity, in order.

@@ -12,7 +12,7 @@ use super::outcome::DONE;
 use super::outcome::MAX_DIMS;
 use super::outcome::NO_ROOM;
 use super::outcome::NO_SUCH_GRADE;
-use super::outcome::Number;
+use super::outcome::Real;
 use super::outcome::TOO_MANY_DIMS;
 use super::outcome::WRONG_COUNT;
 use super::outcome::done;
@@ -27,7 +27,7 @@ ghost use lib.Dec.{ltb};
 ghost use lib.ListN.{length, set};
 ghost use Rattle.masks.specs.Order.{place, placesOf};
 ghost use Rattle.masks.specs.Outcome.{Gives, refusal, tooMany, wrongCount, noRoom, laid};
-ghost use Rattle.masks.specs.Shapes.{getBlade, setBlade, bladeDims, gradeRefusal, gradePart};
+ghost use Rattle.masks.specs.Blade.{getBlade, setBlade, bladeDims, gradeRefusal, gradePart};
 
 // The dimensions that a mask needs, from `dims` on.
 fn dims_for(dims: u8, mask: usize) -> u8
@@ -72,19 +72,19 @@ fn put_blade(dims: u8, places: &[u16; 512], mask: usize, x: f64, a: &[f64], out:
 
 impl Shape {
     // The coefficient of a mask: 0 for a mask outside.
-    pub fn get_blade(self, mask: usize, a: &[f64]) -> Number
+    pub fn get_blade(self, mask: usize, a: &[f64]) -> Real
         ensures { λ r. ⌜ r ≡ getBlade self mask (now (a .entry)) ⌝ }
     {
         let dims = self.dims;
         let no = value_refusal(dims, a.len());
         if no != DONE {
-            return Number {
+            return Real {
                 number: no,
                 value: 0.0,
             };
         }
         let o = order_of(dims);
-        Number {
+        Real {
             number: DONE,
             value: coefficient(dims, &o.places, a, mask),
         }

@@ -21,9 +21,9 @@ ghost use lib.Ieee.{nan};
 ghost use lib.ListN.{length, take, getD};
 ghost use Rattle.masks.specs.Order.{start, order};
 ghost use Rattle.masks.specs.Outcome.{Gives, laid};
-ghost use Rattle.masks.specs.Flavors.{addedDims};
+ghost use Rattle.masks.specs.Flavor.{addedDims};
 ghost use Rattle.masks.specs.Unpack.{choose};
-ghost use Rattle.masks.specs.Build.{padded, atGrade, builtRefusal, oneGrade, vector, n1Blades, scalar, pseudoscalar, firstGrade, packing, spread, bladesOf};
+ghost use Rattle.masks.specs.Build.{padded, atGrade, builtRefusal, oneGrade, vector, n1Blades, scalar, pseudoscalar, firstGrade, packing, spread, bladesOfSide};
 
 // How some numbers fill a value.
 pub enum Packing {
@@ -202,7 +202,7 @@ fn fill_half(odd: u32, dims: u8, v: &[f64], out: &mut [f64])
 // Blades packed on one side.
 fn pack(odd: u32, dims: u8, v: &[f64], flavor: Flavor, out: &mut [f64]) -> Answer
     requires { ⌜ odd ≤ 1 ⌝ }
-    ensures { λ r. ⌜ Gives (bladesOf odd dims (now (v .entry)) flavor (length (now (out .entry)))) r (now (out .entry)) (now (out .exit)) ⌝ }
+    ensures { λ r. ⌜ Gives (bladesOfSide odd dims (now (v .entry)) flavor (length (now (out .entry)))) r (now (out .entry)) (now (out .exit)) ⌝ }
 {
     if MAX_DIMS < dims {
         return refused(TOO_MANY_DIMS);
@@ -233,14 +233,14 @@ fn pack(odd: u32, dims: u8, v: &[f64], flavor: Flavor, out: &mut [f64]) -> Answe
 
 // A value from all of its blades, the even ones, or a low grade.
 pub fn blades_left(dims: u8, v: &[f64], flavor: Flavor, out: &mut [f64]) -> Answer
-    ensures { λ r. ⌜ Gives (bladesOf 0 dims (now (v .entry)) flavor (length (now (out .entry)))) r (now (out .entry)) (now (out .exit)) ⌝ }
+    ensures { λ r. ⌜ Gives (bladesOfSide 0 dims (now (v .entry)) flavor (length (now (out .entry)))) r (now (out .entry)) (now (out .exit)) ⌝ }
 {
     pack(0, dims, v, flavor, out)
 }
 
 // A value from all of its blades, the odd ones, or a high grade.
 pub fn blades_right(dims: u8, v: &[f64], flavor: Flavor, out: &mut [f64]) -> Answer
-    ensures { λ r. ⌜ Gives (bladesOf 1 dims (now (v .entry)) flavor (length (now (out .entry)))) r (now (out .entry)) (now (out .exit)) ⌝ }
+    ensures { λ r. ⌜ Gives (bladesOfSide 1 dims (now (v .entry)) flavor (length (now (out .entry)))) r (now (out .entry)) (now (out .exit)) ⌝ }
 {
     pack(1, dims, v, flavor, out)
 }

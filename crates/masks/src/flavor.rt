@@ -1,6 +1,6 @@
 // Flavors and their metric.
 ghost use mathlib.Core.Path.{_≡_};
-ghost use Rattle.masks.specs.Flavors.{metricOf, metricValue, nullFlavor, addedDims};
+ghost use Rattle.masks.specs.Flavor.{metricOf, metricValue, nullFlavor, addedDims};
 
 pub enum Flavor {
     Vanilla,

@@ -8,7 +8,7 @@ ghost use Prim.Native.Nat.{_+_, _^_, _≤_, _<_};
 ghost use lib.ListN.{length, take, drop};
 ghost use Rattle.masks.specs.Order.{masksOf, placesOf};
 ghost use Rattle.masks.specs.Outcome.{laid};
-ghost use Rattle.masks.specs.Shapes.{coef, moved, negatedIf, turnedMask, resized, lowered, promoted, conformed};
+ghost use Rattle.masks.specs.Shape.{coef, moved, negatedIf, turnedMask, resized, lowered, promoted, conformed};
 
 // A mask that no value has.
 pub(crate) const NO_MASK: u16 = 512;

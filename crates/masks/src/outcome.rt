@@ -53,7 +53,7 @@ pub struct Count {
 }
 
 // One number.
-pub struct Number {
+pub struct Real {
     pub number: u8,
     pub value: f64,
 }

@@ -21,7 +21,7 @@ ghost use Prim.Native.Nat.{_+_, _^_, _≤_, max};
 ghost use lib.Dec.{ltb};
 ghost use lib.ListN.{length};
 ghost use Rattle.masks.specs.Outcome.{Gives, GivesBoth, refusal, tooMany, wrongCount, noRoom, laid};
-ghost use Rattle.masks.specs.Shapes.{withDims, withFlavor, promotes, conformed, conformedShape, setDims, setFlavor, conformTo, conform};
+ghost use Rattle.masks.specs.Shape.{withDims, withFlavor, promotes, conformed, conformedShape, setDims, setFlavor, conformTo, conform};
 
 pub struct Shape {
     pub dims: u8,

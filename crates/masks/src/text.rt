@@ -12,7 +12,7 @@ ghost use lib.Dec.{leb};
 ghost use lib.ListN.{length, take, drop};
 ghost use lib.Seq.{sets};
 ghost use Rattle.masks.specs.Outcome.{Writes, laid};
-ghost use Rattle.masks.specs.Text.{blank, separator, passes, takeWhile, dropWhile, every, same, trimmed, part, afterPart, octetOf, octet, orZero, specOf, readCl, readFlavor, decimal, textOf, writeFlavor, refusedRead, readAs};
+ghost use Rattle.masks.specs.Text.{blank, separator, passesTest, takeWhile, dropWhile, every, same, trimmed, part, afterPart, octetOf, octet, orZero, specOf, readCl, readFlavor, decimal, textOf, writeFlavor, refusedRead, readAs};
 
 // A part as a u8.
 pub enum Octet {
@@ -75,7 +75,7 @@ fn is_separator(c: u8) -> bool
 }
 
 fn byte_passes(test: ByteTest, c: u8) -> bool
-    ensures { λ r. ⌜ r ≡ passes test c ⌝ }
+    ensures { λ r. ⌜ r ≡ passesTest test c ⌝ }
 {
     match test {
         ByteTest::Ascii => c <= 127,
@@ -88,7 +88,7 @@ fn byte_passes(test: ByteTest, c: u8) -> bool
 // The first place from `at` on whose byte does not pass the test; the length where each does.
 fn skip(test: ByteTest, t: &[u8], at: usize) -> usize
     requires { ⌜ at ≤ length (now t) ⌝ }
-    ensures { λ r. ⌜ (at ≤ r) × (r ≤ length (now (t .entry))) × (drop r (now (t .entry)) ≡ dropWhile (passes test) (drop at (now (t .entry)))) × (take (r - at) (drop at (now (t .entry))) ≡ takeWhile (passes test) (drop at (now (t .entry)))) ⌝ }
+    ensures { λ r. ⌜ (at ≤ r) × (r ≤ length (now (t .entry))) × (drop r (now (t .entry)) ≡ dropWhile (passesTest test) (drop at (now (t .entry)))) × (take (r - at) (drop at (now (t .entry))) ≡ takeWhile (passesTest test) (drop at (now (t .entry)))) ⌝ }
 {
     let mut i = at;
     while i < t.len() {

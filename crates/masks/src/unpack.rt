@@ -19,8 +19,8 @@ ghost use Prim.Native.Nat.{_-_, _≤_, _<_, _^_};
 ghost use lib.Dec.{ltb};
 ghost use lib.ListN.{length, take};
 ghost use Rattle.masks.specs.Order.{order, masksOf, placesOf};
-ghost use Rattle.masks.specs.Outcome.{Writes, laid};
-ghost use Rattle.masks.specs.Shapes.{coef, refusedCount};
+ghost use Rattle.masks.specs.Outcome.{Writes, laid, refusedCount};
+ghost use Rattle.masks.specs.Shape.{coef};
 ghost use Rattle.masks.specs.Unpack.{choose, halfMasks, halfOf, unpackAll, unpackHalf, unpackOwnHalf, unpackVector};
 
 fn none(number: u8) -> Count

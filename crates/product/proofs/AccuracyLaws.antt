@@ -21,7 +21,7 @@ use Rattle.rounding.proofs.DemandLaws.{demand-bound, demand-exact}
 use Rattle.masks.specs.declared.shape.Shape.{Shape}
 use Rattle.masks.proofs.OrderLaws.{blades-le}
 use Rattle.product.specs.declared.mode.Mode.{Mode}
-use Rattle.product.specs.Gathered.{gathered, sumAt}
+use Rattle.product.specs.inner.Gathered.{gathered, sumAt}
 use Rattle.product.specs.Products.{multiplied}
 use Rattle.product.specs.Accuracy.{valueIn, above, beneath, contributing, exactSizes, exactSum, Holds, Fitting, InBounds, Multiples, LiesWithin, ExactCase, IsExactly}
 use Rattle.product.proofs.GatherLaws.{product-at}

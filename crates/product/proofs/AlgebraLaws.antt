@@ -17,22 +17,22 @@ use Rattle.clifford.specs.Sum.{δ}
 use Rattle.clifford.specs.Metric.{metric}
 use Rattle.clifford.specs.Relations.{Equals, exchange, square, chain, word}
 use Rattle.clifford.specs.Placed.{stands}
-use Rattle.clifford.specs.Product.{Inverse, reverse}
+use Rattle.clifford.specs.Product.{Bijection, reverse}
 use Rattle.clifford.proofs.Ring.{neg-mul, one-mul}
 use Rattle.clifford.proofs.BladeLaws.{has-zero, has-suc, has-beyond}
 use Rattle.clifford.proofs.PlacedLaws.{metric-derived, metric-unique}
 use Rattle.clifford.proofs.ProductLaws.{multiply-assoc, unit-multiply, multiply-unit, reverse-multiply, multiply-basis}
 use Rattle.masks.specs.declared.flavor.Flavor.{Flavor}
-use Rattle.masks.specs.Order.{grade, below, order, place}
-use Rattle.masks.specs.Flavors.{metricOf}
+use Rattle.masks.specs.Order.{grade, gradesBelow, order, place}
+use Rattle.masks.specs.Flavor.{metricOf}
 use Rattle.masks.proofs.OrderLaws.{order-at, order-place, place-lt}
 use Rattle.product.specs.declared.mode.Mode.{Mode}
-use Rattle.product.specs.Modes.{takes, squares, pairMetric}
+use Rattle.product.specs.Mode.{takes, squares, pairMetric}
 use Rattle.product.specs.Pairwise.{maskAt, metricAt, placeAt}
-use Rattle.product.specs.Whole.{whole, vector, unit}
+use Rattle.product.specs.Whole.{whole, basisVector, unitValue}
 
 -- The order and its inverse of masks are what the algebra asks for.
-pub inverse : (d : ℕ) → Inverse d (maskAt d) (place d)
+pub inverse : (d : ℕ) → Bijection d (maskAt d) (place d)
 inverse d =
     record {
       order-lt = λ i h. order-at d i h .low;
@@ -101,10 +101,10 @@ module _ (flavor : Flavor) (d : ℕ) where
   pub groups : (a b c : ℕ → ℤ) (k : ℕ) → whole flavor d (whole flavor d a b) c k ≡ whole flavor d a (whole flavor d b c) k
   groups = multiply-assoc (metricOf flavor) d (maskAt d) (place d) (inverse d)
 
-  pub unit-left : (b : ℕ → ℤ) (k : ℕ) → k < 2 ^ d → whole flavor d (unit d) b k ≡ b k
+  pub unit-left : (b : ℕ → ℤ) (k : ℕ) → k < 2 ^ d → whole flavor d (unitValue d) b k ≡ b k
   unit-left = unit-multiply (metricOf flavor) d (maskAt d) (place d) (inverse d)
 
-  pub unit-right : (a : ℕ → ℤ) (k : ℕ) → k < 2 ^ d → whole flavor d a (unit d) k ≡ a k
+  pub unit-right : (a : ℕ → ℤ) (k : ℕ) → k < 2 ^ d → whole flavor d a (unitValue d) k ≡ a k
   unit-right = multiply-unit (metricOf flavor) d (maskAt d) (place d) (inverse d)
 
   pub reverses : (a b : ℕ → ℤ) (k : ℕ)
@@ -113,17 +113,17 @@ module _ (flavor : Flavor) (d : ℕ) where
 
   -- Two basis vectors multiply to their metric at the place of their masks' xor.
   vectors : (i j : ℕ) → i < d → j < d → (k : ℕ)
-      → whole flavor d (vector d i) (vector d j) k ≡ metric (metricOf flavor) d (2 ^ i) (2 ^ j) *ℤ δ (place d (bitXor (2 ^ i) (2 ^ j))) k
+      → whole flavor d (basisVector d i) (basisVector d j) k ≡ metric (metricOf flavor) d (2 ^ i) (2 ^ j) *ℤ δ (place d (bitXor (2 ^ i) (2 ^ j))) k
   vectors i j h l k =
       multiply-basis (metricOf flavor) d (maskAt d) (place d) (place d (2 ^ i)) (place d (2 ^ j)) (place-lt d (2 ^ i) (pow-lt h)) (place-lt d (2 ^ j) (pow-lt l)) k
       ∙ ap₂ (λ (a b : ℕ). metric (metricOf flavor) d a b *ℤ δ (place d (bitXor a b)) k) (order-place d (2 ^ i) (pow-lt h)) (order-place d (2 ^ j) (pow-lt l))
 
   -- e_i e_i is the flavor's metric.
-  pub squared : (i : ℕ) → i < d → (k : ℕ) → whole flavor d (vector d i) (vector d i) k ≡ metricOf flavor i *ℤ unit d k
+  pub squared : (i : ℕ) → i < d → (k : ℕ) → whole flavor d (basisVector d i) (basisVector d i) k ≡ metricOf flavor i *ℤ unitValue d k
   squared i h k = vectors i i h h k ∙ ap₂ (λ (s : ℤ) (m : ℕ). s *ℤ δ (place d m) k) (metric-squared (metricOf flavor) d i h) (xor-self (2 ^ i))
 
   -- e_i e_j is -(e_j e_i).
-  pub exchanged : (i j : ℕ) → i < d → j < d → i ≢ j → (k : ℕ) → whole flavor d (vector d i) (vector d j) k ≡ negℤ (whole flavor d (vector d j) (vector d i) k)
+  pub exchanged : (i j : ℕ) → i < d → j < d → i ≢ j → (k : ℕ) → whole flavor d (basisVector d i) (basisVector d j) k ≡ negℤ (whole flavor d (basisVector d j) (basisVector d i) k)
   exchanged i j h l n k =
       vectors i j h l k
       ∙ ap₂ (λ (s : ℤ) (m : ℕ). s *ℤ δ (place d m) k) (metric-exchanged (metricOf flavor) d i j h l n) (xor-comm (2 ^ i) (2 ^ j))
@@ -152,5 +152,5 @@ module _ (mode : Mode) (flavor : Flavor) (d i j : ℕ) (h : i < 2 ^ d) (l : j < 
 
 -- Place 5 of three dimensions stands for e3 e1.
 pub place-five : stands 3 (maskAt 3 5) ≡ 2 ∷ 0 ∷ []
-unfolding order below grade
+unfolding order gradesBelow grade
 place-five = Rattle.clifford.proofs.Examples.place-five

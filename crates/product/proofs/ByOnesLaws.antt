@@ -23,14 +23,14 @@ use Rattle.clifford.proofs.SignLaws.{sign-even, sign-odd, sign-add}
 use Rattle.clifford.proofs.PairsLaws.{nonzero-metric}
 use Rattle.clifford.proofs.Counting.{every, every-at}
 use Rattle.masks.specs.declared.flavor.Flavor.{Flavor}
-use Rattle.masks.specs.Flavors.{metricOf}
+use Rattle.masks.specs.Flavor.{metricOf}
 use Rattle.masks.proofs.ListLaws.{split}
 use Rattle.product.specs.declared.mode.Mode.{Mode}
 use Rattle.product.specs.declared.metric.Squares.{Squares}
 use Rattle.product.specs.declared.metric.Blade as Declared
-use Rattle.product.specs.Modes.{takes, flavorFor, pairMetric}
-use Rattle.product.specs.Gathered.{negative}
-use Rattle.product.specs.ByOnes.{maskOf, squaresBelow, withSquare, below, bladeOf, turnedOne, turns}
+use Rattle.product.specs.Mode.{takes, flavorFor, pairMetric}
+use Rattle.product.specs.inner.Gathered.{negative}
+use Rattle.product.specs.inner.ByOnes.{maskOf, squaresBelow, withSquare, oddBelow, bladeOf, turnedOne, turns}
 use Rattle.product.proofs.MetricSigns.{Unital, unital-flavor}
 
 -- 1 for a test that passes.
@@ -227,10 +227,10 @@ module _ (f : Flavor) (d a b : ℕ) (l : d ≤ 9) (ha : a < 2 ^ d) where
       has-and a (bitAnd b (s .null)) i ∙ ap (λ x. has a i && x) (has-and b (s .null) i ∙ ap (λ x. has b i && x) (mask-has 9 _ i (omega arith)))
 
   flips-has : (i : ℕ) → i < d → has (bitAnd a (blade .flips)) i ≡ (has a i && flipping (metricOf f) (has b) i)
-  unfolding bladeOf squaresBelow below
+  unfolding bladeOf squaresBelow oddBelow
   flips-has i h =
-      has-and a (bitXor (below b) (bitAnd b (s .minus))) i
-      ∙ ap (λ x. has a i && x) (ap (λ (v : ℕ → Bool). v i) (has-xor (below b) (bitAnd b (s .minus)))
+      has-and a (bitXor (oddBelow b) (bitAnd b (s .minus))) i
+      ∙ ap (λ x. has a i && x) (ap (λ (v : ℕ → Bool). v i) (has-xor (oddBelow b) (bitAnd b (s .minus)))
       ∙ ap₂ (λ x y. x ⊻ y) (mask-has 9 _ i (omega arith)) (has-and b (s .minus) i ∙ ap (λ x. has b i && x) (mask-has 9 _ i (omega arith))))
 
   -- A pair that shares a null vector has the metric 0.

@@ -16,8 +16,8 @@ use Rattle.rounding.specs.Value.{Whole}
 use Rattle.rounding.proofs.ValueLaws.{zero-whole}
 use Rattle.masks.specs.declared.shape.Shape.{Shape}
 use Rattle.masks.specs.Order.{order}
-use Rattle.masks.specs.Outcome.{Pair, refusal}
-use Rattle.masks.specs.Shapes.{nought, coef, negatedIf, moved, turnedMask, resized, lowered, promotes, promoted, promotedFlavor, conformed, conformedShape, conform}
+use Rattle.masks.specs.Outcome.{Pair, refusal, nought}
+use Rattle.masks.specs.Shape.{coef, negatedIf, moved, turnedMask, resized, lowered, promotes, promoted, promotedFlavor, conformed, conformedShape, conform}
 use Rattle.masks.proofs.ListLaws.{split, getD-map}
 use Rattle.masks.proofs.OrderLaws.{length-order, place-lt}
 use Rattle.masks.proofs.ShapeLaws.{coef-inside, coef-outside, resized-length}

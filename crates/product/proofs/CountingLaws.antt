@@ -12,10 +12,10 @@ use Rattle.clifford.specs.Pairs.{nonzero, nulls}
 use Rattle.clifford.proofs.PairsLaws as Counted
 use Rattle.masks.specs.declared.flavor.Flavor.{Flavor}
 use Rattle.masks.specs.declared.flavor.Flavor.the-variants.{Vanilla, Projective}
-use Rattle.masks.specs.Flavors.{metricOf, nullFlavor}
+use Rattle.masks.specs.Flavor.{metricOf, nullFlavor}
 use Rattle.masks.proofs.FlavorLaws.{null-metric}
 use Rattle.product.specs.declared.mode.Mode.the-variants.{All, Left, Right, Inner, Outer}
-use Rattle.product.specs.Modes.{takes, flavorFor}
+use Rattle.product.specs.Mode.{takes, flavorFor}
 use Rattle.product.specs.Pairwise.{pairsOf}
 use Rattle.product.proofs.PowerLaws.{power-grows}
 

@@ -29,11 +29,11 @@ use Rattle.masks.specs.Order.{place}
 use Rattle.masks.proofs.OrderLaws.{order-at, order-place}
 use Rattle.product.specs.declared.mode.Mode.{Mode}
 use Rattle.product.specs.declared.mode.Mode.the-variants.{All}
-use Rattle.product.specs.Modes.{takes, flavorFor, pairMetric}
+use Rattle.product.specs.Mode.{takes, flavorFor, pairMetric}
 use Rattle.product.specs.Pairwise.{maskAt, metricAt, placeAt}
-use Rattle.product.specs.Gathered.{negative, partner, gathered}
+use Rattle.product.specs.inner.Gathered.{negative, partner, gathered}
 use Rattle.product.specs.Whole.{whole}
-use Rattle.product.specs.Accuracy.{valueIn, sizeAt, valueAt, contributes, contributing, exactSizes, exactSum}
+use Rattle.product.specs.Accuracy.{valueIn, exactSizeAt, exactValueAt, contributes, contributing, exactSizes, exactSum}
 use Rattle.product.proofs.MetricSigns.{metric-unital}
 use Rattle.product.proofs.PairsTotal.{total-pick}
 use Rattle.product.proofs.Partners.{partner-low, partner-place, partner-there, partner-goes}
@@ -54,10 +54,10 @@ term-by-δ m x y e = go (nonzero m) refl e
     go true h false = sym (zero-*ℤ (m *ℤ x *ℤ y))
     go false h e = sym (ap (λ z. cond e (pos 1) (pos 0) *ℤ z) (nought m h) ∙ *ℤ-zero (cond e (pos 1) (pos 0)))
 
-pub exact-sum-whole : (flavor : Flavor) (d k p q : ℕ) (a b : List Float) → k < 2 ^ d → exactSum All flavor d k p q a b ≡ whole flavor d (valueAt p a) (valueAt q b) k
+pub exact-sum-whole : (flavor : Flavor) (d k p q : ℕ) (a b : List Float) → k < 2 ^ d → exactSum All flavor d k p q a b ≡ whole flavor d (exactValueAt p a) (exactValueAt q b) k
 unfolding exactSum contributes metricAt placeAt pairMetric takes flavorFor multiply δ
 exact-sum-whole flavor d k p q a b _ =
-    sum-ext (2 ^ d) _ _ (λ j _. sum-ext (2 ^ d) _ _ (λ i _. term-by-δ (metricAt All flavor d i j) (valueAt p a i) (valueAt q b j) (eqb (placeAt All flavor d i j) k)))
+    sum-ext (2 ^ d) _ _ (λ j _. sum-ext (2 ^ d) _ _ (λ i _. term-by-δ (metricAt All flavor d i j) (exactValueAt p a i) (exactValueAt q b j) (eqb (placeAt All flavor d i j) k)))
 
 -- ---- of a sum, the term at one index
 
@@ -192,13 +192,13 @@ module _ (mode : Mode) (flavor : Flavor) (d k : ℕ) (h : k < 2 ^ d) (a b : List
   pub exact-sizes-total : (p q : ℕ) → exactSizes mode flavor d k p q a b ≡ Terms.total p q (gathered mode flavor d a b k) (2 ^ d)
   unfolding exactSizes gathered
   exact-sizes-total p q =
-      pairs-by-place 0 total total-ext total-pick mode flavor d k h (λ i j. sizeAt p a i * sizeAt q b j)
+      pairs-by-place 0 total total-ext total-pick mode flavor d k h (λ i j. exactSizeAt p a i * exactSizeAt q b j)
       ∙ size-terms p q (gathered mode flavor d a b k) (2 ^ d)
 
   -- The term of b's place j, by its sign and its size.
   gathered-value : (p q j : ℕ) → j < 2 ^ d
       → let t = gathered mode flavor d a b k j in
-      cond (t .live) (metricAt mode flavor d (place d (partner d j k)) j *ℤ valueAt p a (place d (partner d j k)) *ℤ valueAt q b j) (pos 0)
+      cond (t .live) (metricAt mode flavor d (place d (partner d j k)) j *ℤ exactValueAt p a (place d (partner d j k)) *ℤ exactValueAt q b j) (pos 0)
       ≡ cond (t .live) (signed (productSign t) (productSize p q t)) (pos 0)
   unfolding gathered metricAt valueIn
   gathered-value p q j l =
@@ -211,6 +211,6 @@ module _ (mode : Mode) (flavor : Flavor) (d k : ℕ) (h : k < 2 ^ d) (a b : List
   pub exact-sum-parts : (p q : ℕ) → exactSum mode flavor d k p q a b ≡ pos (ups p q (gathered mode flavor d a b k) (2 ^ d)) -ℤ pos (downs p q (gathered mode flavor d a b k) (2 ^ d))
   unfolding exactSum gathered
   exact-sum-parts p q =
-      pairs-by-place (pos 0) sum sum-ext sum-pick mode flavor d k h (λ i j. metricAt mode flavor d i j *ℤ valueAt p a i *ℤ valueAt q b j)
+      pairs-by-place (pos 0) sum sum-ext sum-pick mode flavor d k h (λ i j. metricAt mode flavor d i j *ℤ exactValueAt p a i *ℤ exactValueAt q b j)
       ∙ sum-ext (2 ^ d) _ _ (gathered-value p q)
       ∙ sum-terms p q (gathered mode flavor d a b k) (2 ^ d)

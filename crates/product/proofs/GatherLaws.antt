@@ -16,18 +16,18 @@ use lib.Seq.{getD-set-same, getD-set-other}
 use borrow.Author.Tests.{eqb-true, eqb-false, lt-ltb, le-ltb}
 use Rattle.clifford.specs.Sum.{total}
 use Rattle.clifford.specs.Pairs.{nonzero}
-use Rattle.rounding.specs.Operation.{unit}
+use Rattle.rounding.specs.Operation.{signedOne}
 use Rattle.rounding.specs.Snap.{snap}
 use Rattle.rounding.specs.Terms.{Term, prod}
 use Rattle.masks.specs.declared.flavor.Flavor.{Flavor}
 use Rattle.masks.specs.Order.{place, upFrom}
-use Rattle.masks.specs.Shapes.{nought}
+use Rattle.masks.specs.Outcome.{nought}
 use Rattle.masks.proofs.ListLaws.{getD-map}
 use Rattle.masks.proofs.OrderLaws.{order-at}
 use Rattle.product.specs.declared.mode.Mode.{Mode}
-use Rattle.product.specs.Modes.{pairMetric}
+use Rattle.product.specs.Mode.{pairMetric}
 use Rattle.product.specs.Pairwise.{maskAt, metricAt, placeAt, term, addPair, inside, product, pairsOf, sums}
-use Rattle.product.specs.Gathered.{negative, partner, gathered, sumAt}
+use Rattle.product.specs.inner.Gathered.{negative, partner, gathered, sumAt}
 use Rattle.product.specs.Accuracy.{contributing}
 use Rattle.product.proofs.MetricSigns.{metric-sign}
 use Rattle.product.proofs.PairsTotal.{contributing-pairs}
@@ -92,7 +92,7 @@ module _ (mode : Mode) (flavor : Flavor) (d : ℕ) where
         m = pairMetric mode flavor d (maskAt d i) (maskAt d j)
 
         go : (t : Bool) → nonzero m ≡ t
-            → cond t (add f x (mul f (mul f (ofInt f m) (getD a i nan)) (getD b j nan))) x ≡ cond t (add f x (mul f (mul f (unit (negative m)) (getD a i nan)) (getD b j nan))) x
+            → cond t (add f x (mul f (mul f (ofInt f m) (getD a i nan)) (getD b j nan))) x ≡ cond t (add f x (mul f (mul f (signedOne (negative m)) (getD a i nan)) (getD b j nan))) x
         go true e = rw (metric-sign mode flavor d (maskAt d i) (maskAt d j) f e)
         go false e = refl
 

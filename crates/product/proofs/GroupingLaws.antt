@@ -16,10 +16,10 @@ use Rattle.rounding.proofs.TermsLaws.{run-fits}
 use Rattle.masks.specs.declared.shape.Shape.{Shape}
 use Rattle.product.specs.declared.mode.Mode.the-variants.{All}
 use Rattle.product.specs.Pairwise.{maskAt}
-use Rattle.product.specs.Gathered.{gathered, sumAt}
+use Rattle.product.specs.inner.Gathered.{gathered, sumAt}
 use Rattle.product.specs.Products.{Counted}
 use Rattle.product.specs.Whole.{whole}
-use Rattle.product.specs.Accuracy.{valueAt, Holds, Fitting, ExactCase, IsExactly, EqualNumbers, times}
+use Rattle.product.specs.Accuracy.{exactValueAt, Holds, Fitting, ExactCase, IsExactly, EqualNumbers, times}
 use Rattle.product.specs.Reverse.{reversed}
 use Rattle.product.proofs.MultipliedLaws.{multiplied-same}
 use Rattle.product.proofs.GatherLaws.{product-length, product-at}
@@ -54,25 +54,25 @@ module _ (s : Shape) (room : ℕ) (t : Fitting s room) where
   module _ (a b : List Float) (u : Holds (s .dims) a) (v : Holds (s .dims) b) (c : ExactCase All (s .flavor) (s .dims) a b) where
     -- In the exact case each coefficient is that of the product over the whole numbers, in units finer by r and w binary digits than those of the factors.
     exact-finer : (r w k : ℕ) → k < 2 ^ s .dims
-        → IsExactly (c .p + r + (c .q + w)) (getD (times s room a b) k nan) (whole (s .flavor) (s .dims) (valueAt (c .p + r) a) (valueAt (c .q + w) b) k)
+        → IsExactly (c .p + r + (c .q + w)) (getD (times s room a b) k nan) (whole (s .flavor) (s .dims) (exactValueAt (c .p + r) a) (exactValueAt (c .q + w) b) k)
     exact-finer r w k h =
         let f = s .flavor in
         let d = s .dims in
         let x = getD (times s room a b) k nan in
-        let n = whole f d (valueAt (c .p) a) (valueAt (c .q) b) k in
+        let n = whole f d (exactValueAt (c .p) a) (exactValueAt (c .q) b) k in
         let e = exact All s room a b t u v c k h in
         let unit : c .p + c .q + (r + w) ≡ c .p + r + (c .q + w) = omega arith in
-        let value : n *ℤ pos (2 ^ (r + w)) ≡ whole f d (valueAt (c .p + r) a) (valueAt (c .q + w) b) k =
+        let value : n *ℤ pos (2 ^ (r + w)) ≡ whole f d (exactValueAt (c .p + r) a) (exactValueAt (c .q + w) b) k =
         ap (λ (m : ℕ). n *ℤ pos m) (pow-add 2 r w)
-        ∙ sym (whole-scaled f d (valueAt (c .p) a) (valueAt (c .q) b) k (pos (2 ^ r)) (pos (2 ^ w)))
+        ∙ sym (whole-scaled f d (exactValueAt (c .p) a) (exactValueAt (c .q) b) k (pos (2 ^ r)) (pos (2 ^ w)))
         ∙ whole-ext f d _ _ k _ _ (λ i l. sym (value-finer (c .p) r (getD a i nan) (c .left i l))) (λ i l. sym (value-finer (c .q) w (getD b i nan) (c .right i l))) in
-        subst (λ (m : ℕ). IsExactly m x (whole f d (valueAt (c .p + r) a) (valueAt (c .q + w) b) k)) unit
+        subst (λ (m : ℕ). IsExactly m x (whole f d (exactValueAt (c .p + r) a) (exactValueAt (c .q + w) b) k)) unit
         (subst (λ z. IsExactly (c .p + c .q + (r + w)) x z) value
         (exactly-finer (c .p + c .q) (r + w) x n (e .0, e .1 ∙ exact-sum-whole f d k (c .p) (c .q) a b h)))
 
     -- In any units that are as fine as those of the factors, or finer.
     pub times-exact : (y z : ℕ) → c .p ≤ y → c .q ≤ z → (k : ℕ) → k < 2 ^ s .dims
-        → IsExactly (y + z) (getD (times s room a b) k nan) (whole (s .flavor) (s .dims) (valueAt y a) (valueAt z b) k)
+        → IsExactly (y + z) (getD (times s room a b) k nan) (whole (s .flavor) (s .dims) (exactValueAt y a) (exactValueAt z b) k)
     times-exact y z l m k h =
         let left : c .p + (y - c .p) ≡ y = omega arith in
         let right : c .q + (z - c .q) ≡ z = omega arith in
@@ -93,7 +93,7 @@ module _ (s : Shape) (room : ℕ) (t : Fitting s room) where
       let last = times-exact b c v w bc n n (omega arith) (omega arith) in
       equal-numbers (n + n + n) _ _ (left .0) (rw (← add-assoc n n n) at (right .0))
       (left .1 ∙ whole-ext f d _ _ k _ _ (λ i l. first i l .1) (λ i l. refl)
-      ∙ groups f d (valueAt n a) (valueAt n b) (valueAt n c) k
+      ∙ groups f d (exactValueAt n a) (exactValueAt n b) (exactValueAt n c) k
       ∙ sym (whole-ext f d _ _ k _ _ (λ i l. refl) (λ i l. last i l .1)) ∙ sym (right .1) ∙ rw (add-assoc n n n))
 
   pub reversing : (a b : List Float) → Holds (s .dims) a → Holds (s .dims) b → ExactCase All (s .flavor) (s .dims) a b
@@ -108,5 +108,5 @@ module _ (s : Shape) (room : ℕ) (t : Fitting s room) where
       let right = times-exact (reversed d b) (reversed d a) (reversed-holds d b v) (reversed-holds d a u) c n n (omega arith) (omega arith) k h in
       equal-numbers (n + n) _ _ (reversed-multiples d (times s room a b) (n + n) (λ i l. left i l .0) k h) (right .0)
       (reversed-value d (times s room a b) (n + n) k h ∙ reverse-ext d (maskAt d) _ _ k (left k h .1)
-      ∙ reverses f d (valueAt n a) (valueAt n b) k
+      ∙ reverses f d (exactValueAt n a) (exactValueAt n b) k
       ∙ sym (right .1 ∙ whole-ext f d _ _ k _ _ (λ i l. reversed-value d b n i l) (λ i l. reversed-value d a n i l)))

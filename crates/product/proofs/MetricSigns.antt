@@ -11,13 +11,13 @@ use Rattle.clifford.specs.Sign.{sign}
 use Rattle.clifford.specs.Metric.{shared, metric}
 use Rattle.clifford.specs.Pairs.{nonzero}
 use Rattle.clifford.proofs.SignLaws.{sign-suc}
-use Rattle.rounding.specs.Operation.{unit}
+use Rattle.rounding.specs.Operation.{signedOne}
 use Rattle.masks.specs.declared.flavor.Flavor.{Flavor}
 use Rattle.masks.specs.declared.flavor.Flavor.the-variants.{Vanilla, Projective, Cl}
-use Rattle.masks.specs.Flavors.{metricOf}
+use Rattle.masks.specs.Flavor.{metricOf}
 use Rattle.product.specs.declared.mode.Mode.{Mode}
-use Rattle.product.specs.Modes.{takes, squares, flavorFor, pairMetric}
-use Rattle.product.specs.Gathered.{negative}
+use Rattle.product.specs.Mode.{takes, squares, flavorFor, pairMetric}
+use Rattle.product.specs.inner.Gathered.{negative}
 
 -- A whole number is -1, 0 or 1.
 abbrev pub Unital : ℤ → Type 0
@@ -61,12 +61,12 @@ unital-flavor Vanilla i = plus-one
 unital-flavor Projective i = choose (eqb i 0) (pos 0) (pos 1) nothing plus-one
 unital-flavor (Cl p n z) i = choose (ltb i z) (pos 0) _ nothing (choose (ltb i (z + n)) (negsuc 0) (pos 1) minus-one plus-one)
 
-unit-float : (f : Format) (s : Bool) → round f s 1 1 ≡ unit s
+unit-float : (f : Format) (s : Bool) → round f s 1 1 ≡ signedOne s
 unfolding round units odd size span climb
 unit-float binary32 s = refl
 unit-float binary64 s = refl
 
-as-float : (f : Format) (m : ℤ) → Unital m → nonzero m ≡ true → ofInt f m ≡ unit (negative m)
+as-float : (f : Format) (m : ℤ) → Unital m → nonzero m ≡ true → ofInt f m ≡ signedOne (negative m)
 unfolding ofInt
 as-float f m (inl e) h = rw e (unit-float f true)
 as-float f m (inr (inl e)) h = absurd (false≢true (sym (ap nonzero e) ∙ h))
@@ -82,5 +82,5 @@ module _ (mode : Mode) (flavor : Flavor) (d a b : ℕ) where
       nothing
 
   -- As a float, a metric that is not 0 is 1 or -1, by its sign.
-  pub metric-sign : (f : Format) → nonzero (pairMetric mode flavor d a b) ≡ true → ofInt f (pairMetric mode flavor d a b) ≡ unit (negative (pairMetric mode flavor d a b))
+  pub metric-sign : (f : Format) → nonzero (pairMetric mode flavor d a b) ≡ true → ofInt f (pairMetric mode flavor d a b) ≡ signedOne (negative (pairMetric mode flavor d a b))
   metric-sign f h = as-float f (pairMetric mode flavor d a b) metric-unital h

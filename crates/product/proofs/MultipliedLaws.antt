@@ -15,7 +15,7 @@ use Rattle.masks.specs.declared.flavor.Flavor.the-variants.{Vanilla, Projective
 use Rattle.masks.specs.declared.shape.Shape.{Shape}
 use Rattle.masks.specs.declared.outcome.Answers.{Answers}
 use Rattle.masks.specs.Outcome.{Pair, GivesBoth, laid, refusal, refusedPair, unless}
-use Rattle.masks.specs.Shapes.{promotes, resized, conformed, conformedShape, conform}
+use Rattle.masks.specs.Shape.{promotes, resized, conformed, conformedShape, conform}
 use Rattle.masks.proofs.ListLaws.{take-laid}
 use Rattle.masks.proofs.RefusalLaws.{unless-done}
 use Rattle.masks.proofs.ChangeLaws.{Paired, paired, conformed-none}

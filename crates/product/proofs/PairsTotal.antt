@@ -18,7 +18,7 @@ use Rattle.masks.specs.declared.flavor.Flavor.{Flavor}
 use Rattle.masks.specs.Order.{place}
 use Rattle.masks.proofs.OrderLaws.{order-at, order-place, place-lt}
 use Rattle.product.specs.declared.mode.Mode.{Mode}
-use Rattle.product.specs.Modes.{takes, squares, pairMetric}
+use Rattle.product.specs.Mode.{takes, squares, pairMetric}
 use Rattle.product.specs.Pairwise.{maskAt, metricAt, placeAt, pairsOf}
 use Rattle.product.specs.Accuracy.{contributes, contributing}
 use Rattle.product.proofs.Partners.{place-at-lt}

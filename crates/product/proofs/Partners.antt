@@ -8,7 +8,7 @@ use Rattle.masks.specs.Order.{place}
 use Rattle.masks.proofs.OrderLaws.{order-at, order-place, place-lt}
 use Rattle.product.specs.declared.mode.Mode.{Mode}
 use Rattle.product.specs.Pairwise.{maskAt, placeAt}
-use Rattle.product.specs.Gathered.{partner}
+use Rattle.product.specs.inner.Gathered.{partner}
 
 pub partner-low : (d j k : ℕ) → j < 2 ^ d → k < 2 ^ d → partner d j k < 2 ^ d
 partner-low d j k hj hk = xor-lt d (maskAt d j) (maskAt d k) (order-at d j hj .low) (order-at d k hk .low)

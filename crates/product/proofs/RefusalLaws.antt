@@ -9,7 +9,7 @@ use borrow.Author.Tests.{eq-eqb, le-ltb, lt-ltb, ltb-false}
 use Rattle.masks.specs.declared.flavor.Flavor.the-variants.{Vanilla}
 use Rattle.masks.specs.declared.shape.Shape.{Shape}
 use Rattle.masks.specs.Outcome.{Test, Pair, refusal, tooMany, wrongCount, noRoom, unless, shapeOf, refusedPair}
-use Rattle.masks.specs.Shapes.{promotes, conformed, conformedShape, conform}
+use Rattle.masks.specs.Shape.{promotes, conformed, conformedShape, conform}
 use Rattle.masks.proofs.RefusalLaws.{unless-refused, refused-first, refused-later}
 use Rattle.masks.proofs.ChangeLaws.{pairChecks, paired}
 use Rattle.masks.proofs.OrderLaws.{blades-le}

@@ -24,15 +24,15 @@ use Rattle.clifford.proofs.PairsLaws.{nonzero-metric}
 use Rattle.rounding.specs.Value.{sizeIn, Whole}
 use Rattle.masks.specs.declared.flavor.Flavor.{Flavor}
 use Rattle.masks.specs.Order.{order, place}
-use Rattle.masks.specs.Flavors.{metricOf}
-use Rattle.masks.specs.Shapes.{negatedIf}
+use Rattle.masks.specs.Flavor.{metricOf}
+use Rattle.masks.specs.Shape.{negatedIf}
 use Rattle.masks.proofs.ListLaws.{getD-map}
 use Rattle.masks.proofs.OrderLaws.{length-order, order-at}
 use Rattle.masks.proofs.ShapeLaws.{coef-inside, ordered-length}
 use Rattle.product.specs.declared.mode.Mode.the-variants.{All}
-use Rattle.product.specs.Modes.{takes, flavorFor, pairMetric}
+use Rattle.product.specs.Mode.{takes, flavorFor, pairMetric}
 use Rattle.product.specs.Pairwise.{maskAt, metricAt, placeAt}
-use Rattle.product.specs.Accuracy.{valueIn, sizeAt, valueAt, contributes, exactSizes, Holds, Multiples, ExactCase}
+use Rattle.product.specs.Accuracy.{valueIn, exactSizeAt, exactValueAt, contributes, exactSizes, Holds, Multiples, ExactCase}
 use Rattle.product.specs.Reverse.{reversed}
 use Rattle.product.proofs.PairsTotal.{total-swap}
 
@@ -85,14 +85,14 @@ module _ (d : ℕ) (a : List Float) where
   pub reversed-multiples : (p : ℕ) → Multiples p d a → Multiples p d (reversed d a)
   reversed-multiples p w i h = rw (reversed-at i h) (whole-negated (turns (maskAt d i)) p (getD a i nan) (w i h))
 
-  pub reversed-size : (p k : ℕ) → k < 2 ^ d → sizeAt p (reversed d a) k ≡ sizeAt p a k
+  pub reversed-size : (p k : ℕ) → k < 2 ^ d → exactSizeAt p (reversed d a) k ≡ exactSizeAt p a k
   reversed-size p k h = ap (sizeIn p) (reversed-at k h) ∙ size-negated (turns (maskAt d k)) p (getD a k nan)
 
-  pub reversed-value : (p k : ℕ) → k < 2 ^ d → valueAt p (reversed d a) k ≡ reverse d (maskAt d) (valueAt p a) k
+  pub reversed-value : (p k : ℕ) → k < 2 ^ d → exactValueAt p (reversed d a) k ≡ reverse d (maskAt d) (exactValueAt p a) k
   unfolding reverse reversal
   reversed-value p k h =
       ap (valueIn p) (reversed-at k h) ∙ value-negated (turns (maskAt d k)) p (getD a k nan)
-      ∙ rw (count-ones d (maskAt d k) (order-at d k h .low)) (by-sign (ltb (ones (maskAt d k) % 4) 2) (valueAt p a k))
+      ∙ rw (count-ones d (maskAt d k) (order-at d k h .low)) (by-sign (ltb (ones (maskAt d k) % 4) 2) (exactValueAt p a k))
     where
       by-sign : (b : Bool) (z : ℤ) → cond (not b) (negℤ z) z ≡ cond b (pos 1) (negℤ (pos 1)) *ℤ z
       by-sign true z = sym (one-mul z)
@@ -123,8 +123,8 @@ module _ (flavor : Flavor) (d : ℕ) where
       total-ext (2 ^ d) _ _ (λ j hj.
       total-ext (2 ^ d) _ _ (λ i hi.
       ap₂ (λ (t : Bool) (n : ℕ). cond t n 0) (contributes-swapped k i j)
-      (ap₂ (λ (m n : ℕ). m * n) (reversed-size d b q i hi) (reversed-size d a p j hj) ∙ mul-comm (sizeAt q b i) (sizeAt p a j))))
-      ∙ total-swap (2 ^ d) (2 ^ d) (λ j i. cond (contributes All flavor d k j i) (sizeAt p a j * sizeAt q b i) 0)
+      (ap₂ (λ (m n : ℕ). m * n) (reversed-size d b q i hi) (reversed-size d a p j hj) ∙ mul-comm (exactSizeAt q b i) (exactSizeAt p a j))))
+      ∙ total-swap (2 ^ d) (2 ^ d) (λ j i. cond (contributes All flavor d k j i) (exactSizeAt p a j * exactSizeAt q b i) 0)
 
   -- The exact case of the reversed factors, exchanged.
   pub reversed-case : (a b : List Float) → ExactCase All flavor d a b → ExactCase All flavor d (reversed d b) (reversed d a)

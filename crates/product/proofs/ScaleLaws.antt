@@ -19,7 +19,7 @@ use Rattle.rounding.specs.Value.{signOf, sizeIn, Whole}
 use Rattle.rounding.proofs.ValueLaws.{rescale}
 use Rattle.masks.specs.declared.flavor.Flavor.{Flavor}
 use Rattle.masks.specs.Order.{place}
-use Rattle.masks.specs.Flavors.{metricOf}
+use Rattle.masks.specs.Flavor.{metricOf}
 use Rattle.product.specs.Pairwise.{maskAt}
 use Rattle.product.specs.Whole.{whole}
 use Rattle.product.specs.Accuracy.{valueIn, IsExactly}

@@ -11,15 +11,14 @@ use Rattle.rounding.specs.Terms.{Term}
 use Rattle.rounding.specs.Snap.{snap}
 use Rattle.masks.specs.declared.flavor.Flavor.{Flavor}
 use Rattle.masks.specs.Order.{upFrom}
-use Rattle.masks.specs.Outcome.{laid}
-use Rattle.masks.specs.Shapes.{nought}
+use Rattle.masks.specs.Outcome.{laid, nought}
 use Rattle.masks.proofs.ListLaws.{getD-map, take-laid}
 use Rattle.product.specs.declared.mode.Mode.{Mode}
 use Rattle.product.specs.declared.metric.Squares.{Squares}
 use Rattle.product.specs.declared.metric.Blade.{Blade}
-use Rattle.product.specs.ByOnes.{bladeOf}
+use Rattle.product.specs.inner.ByOnes.{bladeOf}
 use Rattle.product.specs.Pairwise.{maskAt, product}
-use Rattle.product.specs.Gathered.{withTerm, pairFor, withRow, gathered, sumAt, sumsBelow}
+use Rattle.product.specs.inner.Gathered.{withTerm, pairFor, withRow, gathered, sumAt, sumsBelow}
 use Rattle.product.proofs.PlacesLaws.{places-length, places-at, places-same, places-ext, laid-at, laid-over}
 use Rattle.product.proofs.GatherLaws.{product-gathered}
 

@@ -25,12 +25,12 @@ unfoldable pub valueIn : ℕ → Float → ℤ
 valueIn u x = cond (signOf x) (negℤ (pos (sizeIn u x))) (pos (sizeIn u x))
 
 -- The size in units of a's place i.
-abbrev pub sizeAt : ℕ → List Float → ℕ → ℕ
-sizeAt u a i = sizeIn u (getD a i nan)
+abbrev pub exactSizeAt : ℕ → List Float → ℕ → ℕ
+exactSizeAt u a i = sizeIn u (getD a i nan)
 
 -- The value in units of a's place i.
-abbrev pub valueAt : ℕ → List Float → ℕ → ℤ
-valueAt u a i = valueIn u (getD a i nan)
+abbrev pub exactValueAt : ℕ → List Float → ℕ → ℤ
+exactValueAt u a i = valueIn u (getD a i nan)
 
 -- How far a whole number lies above zero, and how far below.
 unfoldable pub above : ℤ → ℕ
@@ -55,13 +55,13 @@ module _ (mode : Mode) (flavor : Flavor) (d k : ℕ) where
   module _ (p q : ℕ) (a b : List Float) where
     -- T: the sum of their exact sizes, for a in units of 2 ^ -p and b in units of 2 ^ -q.
     unfoldable pub exactSizes : ℕ
-    exactSizes = total (2 ^ d) (λ j. total (2 ^ d) (λ i. cond (contributes i j) (sizeAt p a i * sizeAt q b j) 0))
+    exactSizes = total (2 ^ d) (λ j. total (2 ^ d) (λ i. cond (contributes i j) (exactSizeAt p a i * exactSizeAt q b j) 0))
 
     -- The exact sum.
     unfoldable pub exactSum : ℤ
     exactSum =
         sum (2 ^ d)
-        (λ j. sum (2 ^ d) (λ i. cond (contributes i j) (metricAt mode flavor d i j *ℤ valueAt p a i *ℤ valueAt q b j) (pos 0)))
+        (λ j. sum (2 ^ d) (λ i. cond (contributes i j) (metricAt mode flavor d i j *ℤ exactValueAt p a i *ℤ exactValueAt q b j) (pos 0)))
 
 -- ---- demand 3's premises and promises
 

@@ -1,9 +1,8 @@
--- The definitions that the contracts of `product` cite.
-pub mod Modes
+-- The definitions that the contracts of `product` cite; those of private functions alone stand in inner.
+pub mod Mode
 pub mod Pairwise
-pub mod Gathered
-pub mod ByOnes
 pub mod Products
 pub mod Whole
 pub mod Accuracy
 pub mod Reverse
+pub mod inner

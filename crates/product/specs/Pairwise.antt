@@ -10,9 +10,9 @@ use Rattle.clifford.specs.Pairs.{nonzero, pairs}
 use Rattle.rounding.specs.Snap.{snap}
 use Rattle.masks.specs.declared.flavor.Flavor.{Flavor}
 use Rattle.masks.specs.Order.{order, place}
-use Rattle.masks.specs.Shapes.{nought}
+use Rattle.masks.specs.Outcome.{nought}
 use Rattle.product.specs.declared.mode.Mode.{Mode}
-use Rattle.product.specs.Modes.{takes, squares, pairMetric}
+use Rattle.product.specs.Mode.{takes, squares, pairMetric}
 
 -- `maskAt d i` is the mask of place i.
 abbrev pub maskAt : ℕ → ℕ → ℕ

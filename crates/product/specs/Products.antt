@@ -5,7 +5,7 @@ use Prim.Native.Nat.{ℕ}
 use lib.Ieee.{Float, binary64}
 use Rattle.masks.specs.declared.shape.Shape.{Shape}
 use Rattle.masks.specs.Outcome.{Outcome, unless, value, refusedValue, laid}
-use Rattle.masks.specs.Shapes.{conform}
+use Rattle.masks.specs.Shape.{conform}
 use Rattle.product.specs.declared.mode.Mode.{Mode}
 use Rattle.product.specs.declared.mode.Mode.the-variants.{All, Left, Right, Inner, Outer}
 use Rattle.product.specs.declared.outcome.Product.{Product}

@@ -6,7 +6,7 @@ use lib.Count.{ones}
 use lib.Dec.{ltb}
 use lib.Ieee.{Float}
 use Rattle.masks.specs.Order.{order}
-use Rattle.masks.specs.Shapes.{coef, negatedIf}
+use Rattle.masks.specs.Shape.{coef, negatedIf}
 
 -- `reversed` negates grades 2, 3 mod 4.
 unfoldable pub reversed : ℕ → List Float → List Float

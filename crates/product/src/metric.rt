@@ -6,9 +6,9 @@ use masks::flavor::Metric;
 ghost use mathlib.Core.Path.{_≡_};
 ghost use Prim.Native.Nat.{_^_, _<_, _≤_};
 ghost use Rattle.masks.specs.declared.flavor.Flavor.{Flavor};
-ghost use Rattle.masks.specs.Flavors.{metricValue};
-ghost use Rattle.product.specs.Modes.{flavorFor, pairMetric};
-ghost use Rattle.product.specs.ByOnes.{squaresBelow, withSquare, below, bladeOf, turns, turnedOne};
+ghost use Rattle.masks.specs.Flavor.{metricValue};
+ghost use Rattle.product.specs.Mode.{flavorFor, pairMetric};
+ghost use Rattle.product.specs.inner.ByOnes.{squaresBelow, withSquare, oddBelow, bladeOf, turns, turnedOne};
 
 // The basis vectors that square to 0, and those that square to -1, as masks.
 pub struct Squares {
@@ -59,7 +59,7 @@ pub(crate) fn squares_of(flavor: Flavor) -> Squares
 // The bits that an odd number of b's bits stand below: each x ^ x << k doubles the run of bits that a bit sums, to eight.
 fn below_bits(b: u32) -> u32
     requires { ⌜ b < 512 ⌝ }
-    ensures { λ r. ⌜ r ≡ below b ⌝ }
+    ensures { λ r. ⌜ r ≡ oddBelow b ⌝ }
 {
     let p1 = b << 1;
     let p2 = p1 ^ (p1 << 1);

@@ -2,7 +2,7 @@
 use masks::flavor::Flavor;
 use masks::flavor::null_flavor;
 ghost use mathlib.Core.Path.{_≡_};
-ghost use Rattle.product.specs.Modes.{takes, flavorFor};
+ghost use Rattle.product.specs.Mode.{takes, flavorFor};
 
 // Which pairs of blades a product takes: all; a within b; b within a; either; all, under `Flavor::NULL`.
 pub enum Mode {

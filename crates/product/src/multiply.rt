@@ -25,7 +25,7 @@ ghost use lib.Dec.{eqb};
 ghost use lib.Ieee.{binary64};
 ghost use lib.ListN.{length};
 ghost use Rattle.masks.specs.Outcome.{laid, refusal, tooMany, wrongCount, noRoom};
-ghost use Rattle.masks.specs.Shapes.{promotes};
+ghost use Rattle.masks.specs.Shape.{promotes};
 ghost use Rattle.product.specs.Pairwise.{product};
 ghost use Rattle.product.specs.Products.{GivesProduct, multiplied, multipliedOf, generalProduct, leftContraction, rightContraction, innerProduct, outerProduct};
 

@@ -7,7 +7,7 @@ ghost use mathlib.Core.Path.{_≡_};
 ghost use mathlib.Core.Bool.{not, cond};
 ghost use Prim.Native.Nat.{_-_, _*_, _^_, _≤_};
 ghost use Rattle.clifford.specs.Pairs.{nonzero, nulls};
-ghost use Rattle.masks.specs.Flavors.{metricOf, metricValue};
+ghost use Rattle.masks.specs.Flavor.{metricOf, metricValue};
 ghost use Rattle.product.specs.Pairwise.{pairsOf};
 
 // 1 for a metric of 0.

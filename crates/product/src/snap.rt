@@ -6,7 +6,7 @@ ghost use Prim.Native.Nat.{_^_, _<_, _≤_};
 ghost use lib.Ieee.{binary64, round};
 ghost use lib.ListN.{length, take};
 ghost use Rattle.rounding.specs.Snap.{snap, snapBy};
-ghost use Rattle.rounding.specs.SnapBits.{Margin, tinyFloat};
+ghost use Rattle.rounding.specs.inner.SnapBits.{Margin, tinyFloat};
 ghost use Rattle.masks.specs.Outcome.{laid};
 
 // n as a float, with the sign.

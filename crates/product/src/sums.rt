@@ -10,13 +10,12 @@ ghost use Prim.Native.Nat.{_^_, _<_, _≤_};
 ghost use lib.Ieee.{binary64};
 ghost use lib.ListN.{length, replicate};
 ghost use Rattle.masks.specs.declared.flavor.Flavor.{Flavor};
-ghost use Rattle.masks.specs.Flavors.{metricValue};
+ghost use Rattle.masks.specs.Flavor.{metricValue};
 ghost use Rattle.masks.specs.Order.{masksOf, placesOf};
-ghost use Rattle.masks.specs.Outcome.{laid};
-ghost use Rattle.masks.specs.Shapes.{nought};
-ghost use Rattle.product.specs.Modes.{flavorFor};
-ghost use Rattle.product.specs.Gathered.{termOf, withTerm, pairFor, withRow, sumsBelow};
-ghost use Rattle.product.specs.ByOnes.{squaresBelow, bladeOf};
+ghost use Rattle.masks.specs.Outcome.{laid, nought};
+ghost use Rattle.product.specs.Mode.{flavorFor};
+ghost use Rattle.product.specs.inner.Gathered.{termOf, withTerm, pairFor, withRow, sumsBelow};
+ghost use Rattle.product.specs.inner.ByOnes.{squaresBelow, bladeOf};
 
 // A sum after one pair more: (metric x a) x b is added where the metric is not 0.
 fn add_pair(sum: f64, m: Metric, a: f64, b: f64) -> f64

@@ -13,7 +13,7 @@ use lib.Ieee.Nearest.{closest, closest-same}
 use lib.Ieee.Digits.{size-reaches}
 use lib.Ieee.Scale.{round-same, grid, overflow, normal-of-fraction, finite}
 use Rattle.rounding.specs.Round.{rnd, Near}
-use Rattle.rounding.specs.Operation.{cap, RoundedSum, unit}
+use Rattle.rounding.specs.Operation.{cap, RoundedSum, signedOne}
 use Rattle.rounding.specs.Value.{signOf, sizeIn}
 use Rattle.rounding.proofs.RoundLaws.{split-pow, rnd-scale, half-near, closest-half}
 use Rattle.rounding.proofs.ValueLaws.{rescale, neg-value}
@@ -116,15 +116,15 @@ mul-law f g h (fin s' m e) (fin t' n d) s t A B L v w c =
         swap x y g h = omega arith
 
 -- ---- A product with ±1 is exact, and gives the other factor back, negated for -1.
-unit-value : (s : Bool) → HasValue (unit s) s 1 (2 ^ 0)
+unit-value : (s : Bool) → HasValue (signedOne s) s 1 (2 ^ 0)
 unit-value s = (refl, refl)
 
-pub times-unit-value : (f : Format) (u : ℕ) (r : Bool) (x : Float) (s : Bool) (n : ℕ) → u ≤ low f → T (fits f x) → HasValue x s n (2 ^ u) → HasValue (mul f (unit r) x) (unlike r s) n (2 ^ u)
+pub times-unit-value : (f : Format) (u : ℕ) (r : Bool) (x : Float) (s : Bool) (n : ℕ) → u ≤ low f → T (fits f x) → HasValue x s n (2 ^ u) → HasValue (mul f (signedOne r) x) (unlike r s) n (2 ^ u)
 times-unit-value f u r x s n L t v =
     let z : rnd (prec f) (1 * n) ≡ n = ap (λ (k : ℕ). rnd (prec f) k) (one-mul n) ∙ fits-rnd f u x s n t v in
-    subst (λ (k : ℕ). HasValue (mul f (unit r) x) (unlike r s) k (2 ^ u)) z
-    (subst (λ (k : ℕ). HasValue (mul f (unit r) x) (unlike r s) (rnd (prec f) (1 * n)) (2 ^ k)) (zero-add u)
-    (mul-law f 0 u (unit r) x r s 1 n (subst (λ (k : ℕ). k ≤ low f) (sym (zero-add u)) L) (unit-value r) v
+    subst (λ (k : ℕ). HasValue (mul f (signedOne r) x) (unlike r s) k (2 ^ u)) z
+    (subst (λ (k : ℕ). HasValue (mul f (signedOne r) x) (unlike r s) (rnd (prec f) (1 * n)) (2 ^ k)) (zero-add u)
+    (mul-law f 0 u (signedOne r) x r s 1 n (subst (λ (k : ℕ). k ≤ low f) (sym (zero-add u)) L) (unit-value r) v
     (subst (λ (k : ℕ). k < cap f (0 + u)) (sym z) (subst (λ (k : ℕ). n < cap f k) (sym (zero-add u)) (fits-cap f u x s n t v)))))
 
 turn-value : (r : Bool) (x : Float) (s : Bool) (n c : ℕ) → HasValue x s n c → HasValue (cond r (neg x) x) (unlike r s) n c
@@ -134,7 +134,7 @@ turn-value true x false n c v = neg-value x false n c v
 turn-value true x true n c v = neg-value x true n c v
 
 -- As data, for every x: zero, an infinity and a NaN too.
-pub times-unit : (f : Format) (r : Bool) (x : Float) → T (fits f x) → mul f (unit r) x ≡ cond r (neg x) x
+pub times-unit : (f : Format) (r : Bool) (x : Float) → T (fits f x) → mul f (signedOne r) x ≡ cond r (neg x) x
 unfolding mul neg
 times-unit f false nan t = refl
 times-unit f true nan t = refl
@@ -146,7 +146,7 @@ times-unit f r (fin s m e) t =
     let x = fin s m e in
     let n = sizeIn (low f) x in
     let w : HasValue x s n (2 ^ low f) = finite-whole f x tt t in
-    unique f (mul f (unit r) x) (cond r (neg x) x) (unlike r s) n (2 ^ low f) (pow-pos (low f)) (mul-fits f (unit r) x) (cond-fits f r (neg x) x (neg-fits f x t) t)
+    unique f (mul f (signedOne r) x) (cond r (neg x) x) (unlike r s) n (2 ^ low f) (pow-pos (low f)) (mul-fits f (signedOne r) x) (cond-fits f r (neg x) x (neg-fits f x t) t)
     (times-unit-value f (low f) r x s n (le-refl (low f)) t w) (turn-value r x s n (2 ^ low f) w)
 
 -- ---- A sum.

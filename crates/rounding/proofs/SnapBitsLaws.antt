@@ -15,7 +15,7 @@ use lib.Ieee.Fits.{two, reach, down-pos, eq→eqb}
 use lib.Ieee.Exact.{HasValue, odd-sign}
 use lib.Ieee.Bits.{ofBits-fits, is-true, is-false}
 use Rattle.rounding.specs.Snap.{tinyNum, tinyExp, tiny, snapBy, snap}
-use Rattle.rounding.specs.SnapBits.{signBit, field, digits, Margin, tinyFloat}
+use Rattle.rounding.specs.inner.SnapBits.{signBit, field, digits, Margin, tinyFloat}
 use Rattle.rounding.proofs.RoundLaws.{split-pow}
 use Rattle.rounding.proofs.ValueLaws.{rescale}
 use Rattle.rounding.proofs.FitsLaws.{prec-pos}

@@ -11,7 +11,7 @@ use lib.Ieee.Fits.{add-fits, cond-fits}
 use lib.Ieee.Exact.{HasValue}
 use Rattle.rounding.specs.Round.{rnd}
 use Rattle.rounding.specs.Signed.{aboveZero, belowZero}
-use Rattle.rounding.specs.Operation.{cap, unit}
+use Rattle.rounding.specs.Operation.{cap, signedOne}
 use Rattle.rounding.specs.Value.{signOf, sizeIn, Close, Exact}
 use Rattle.rounding.specs.Terms.{Term, prod, run, count, productSign, productSize, rise, fall, ups, downs, total, OnGrid}
 use Rattle.rounding.proofs.RoundLaws.{rnd-near, rnd-idem, rnd-small}
@@ -23,7 +23,7 @@ use Rattle.rounding.proofs.OperationLaws.{under-cap, mul-law, times-uni
 -- ---- One term: its two products are rounded once, since that with the metric is exact.
 pub prod-law : (f : Format) (g h : ℕ) (t : Term) → g + h ≤ low f → OnGrid f g h t → rnd (prec f) (productSize g h t) < cap f (g + h) → HasValue (prod f t) (productSign t) (rnd (prec f) (productSize g h t)) (2 ^ (g + h))
 prod-law f g h t L k c =
-    mul-law f g h (mul f (unit (t .minus)) (t .left)) (t .right) (unlike (t .minus) (signOf (t .left))) (signOf (t .right)) (sizeIn g (t .left)) (sizeIn h (t .right)) L
+    mul-law f g h (mul f (signedOne (t .minus)) (t .left)) (t .right) (unlike (t .minus) (signOf (t .left))) (signOf (t .right)) (sizeIn g (t .left)) (sizeIn h (t .right)) L
     (times-unit-value f g (t .minus) (t .left) (signOf (t .left)) (sizeIn g (t .left)) (omega arith) (k .0) (k .1)) (k .2) c
 
 -- ---- One addition, and its error.

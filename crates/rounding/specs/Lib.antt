@@ -5,4 +5,4 @@ pub mod Value
 pub mod Terms
 pub mod Sized
 pub mod Snap
-pub mod SnapBits
+pub mod inner

@@ -16,5 +16,5 @@ abbrev pub RoundedSum : Format → ℕ → Float → Bool → ℕ → Bool → �
 RoundedSum f u x s A t B = (w : Bool) × (D : ℕ) × AddsTo s A t B w D × (rnd (prec f) D < cap f u → HasValue x w (rnd (prec f) D) (2 ^ u))
 
 -- 1, or -1 where s is true.
-abbrev pub unit : Bool → Float
-unit s = fin s 1 (pos 0)
+abbrev pub signedOne : Bool → Float
+signedOne s = fin s 1 (pos 0)

@@ -5,7 +5,7 @@ use lib.IntN.{pos}
 use lib.Dec.{T}
 use lib.Ieee.{Float, fin, Format, unlike, add, mul, fits}
 use Rattle.rounding.specs.Signed.{aboveZero, belowZero}
-use Rattle.rounding.specs.Operation.{unit}
+use Rattle.rounding.specs.Operation.{signedOne}
 use Rattle.rounding.specs.Value.{signOf, sizeIn, Whole}
 
 -- One term: whether it is added at all, whether its metric is -1 and not 1, and its two factors.
@@ -17,7 +17,7 @@ pub record Term : Type 0 where
 
 -- (metric x left) x right, each product rounded.
 abbrev pub prod : Format → Term → Float
-prod f t = mul f (mul f (unit (t .minus)) (t .left)) (t .right)
+prod f t = mul f (mul f (signedOne (t .minus)) (t .left)) (t .right)
 
 -- The first n terms added up in order, those that are live, from +0, each sum rounded.
 abbrev pub run : Format → (ℕ → Term) → ℕ → Float

@@ -8,7 +8,7 @@ use native.Mathlib.Omega.{arith}
 use lib.ListN.{length, getD, take, drop, length-append}
 use lib.Seq.{sets, drop-cons, getD-drop, drop-drop, take-add, take-at, drop-at, take-suc, length-take-le}
 use Rattle.masks.proofs.ListLaws.{getD-map, sets-append}
-use Rattle.sheets.specs.Bytes.{littleEndian, number, allBytes, section, parts, countIn, itemsIn, afterSection}
+use Rattle.sheets.specs.Bytes.{littleEndian, fromLittleEndian, allBytes, section, parts, countIn, itemsIn, afterSection}
 
 -- every element is a byte
 abbrev pub AreBytes : List ℕ → Type 0
@@ -22,24 +22,24 @@ littleEndian-length zero x = refl
 littleEndian-length (suc k) x = ap suc (littleEndian-length k (x / 256))
 
 -- a number that k bytes hold comes back
-pub number-littleEndian : (k x : ℕ) → x < 256 ^ k → number (littleEndian k x) ≡ x
-unfolding littleEndian number
+pub number-littleEndian : (k x : ℕ) → x < 256 ^ k → fromLittleEndian (littleEndian k x) ≡ x
+unfolding littleEndian fromLittleEndian
 number-littleEndian zero x h = omega arith
 number-littleEndian (suc k) x h =
     let g : x / 256 < 256 ^ k = omega (arith, pow-suc 256 k) in
     omega (arith, number-littleEndian k (x / 256) g)
 
 -- bytes come back from their number
-pub littleEndian-number : (b : List ℕ) → AreBytes b → littleEndian (length b) (number b) ≡ b
-unfolding littleEndian number
+pub littleEndian-number : (b : List ℕ) → AreBytes b → littleEndian (length b) (fromLittleEndian b) ≡ b
+unfolding littleEndian fromLittleEndian
 littleEndian-number [] h = refl
 littleEndian-number (b ∷ bs) h =
-    let low : (b + 256 * number bs) % 256 ≡ b = omega (arith, h 0) in
-    let high : (b + 256 * number bs) / 256 ≡ number bs = omega (arith, h 0) in
+    let low : (b + 256 * fromLittleEndian bs) % 256 ≡ b = omega (arith, h 0) in
+    let high : (b + 256 * fromLittleEndian bs) / 256 ≡ fromLittleEndian bs = omega (arith, h 0) in
     rw (low, high) (ap (λ (l : List ℕ). b ∷ l) (littleEndian-number bs (λ i. h (suc i))))
 
-pub number-lt : (b : List ℕ) → AreBytes b → number b < 256 ^ length b
-unfolding number
+pub number-lt : (b : List ℕ) → AreBytes b → fromLittleEndian b < 256 ^ length b
+unfolding fromLittleEndian
 number-lt [] h = omega arith
 number-lt (b ∷ bs) h = omega (arith, h 0, number-lt bs (λ i. h (suc i)), pow-suc 256 (length bs))
 
@@ -54,8 +54,8 @@ pub drop-bytes : (n : ℕ) (b : List ℕ) → AreBytes b → AreBytes (drop n b)
 drop-bytes n b h i = rw (getD-drop n b i 0) (h (n + i))
 
 -- the number of one byte more, below the others
-pub number-down : (b : List ℕ) (at n : ℕ) → at < length b → number (take (suc n) (drop at b)) ≡ getD b at 0 + 256 * number (take n (drop (suc at) b))
-unfolding number
+pub number-down : (b : List ℕ) (at n : ℕ) → at < length b → fromLittleEndian (take (suc n) (drop at b)) ≡ getD b at 0 + 256 * fromLittleEndian (take n (drop (suc at) b))
+unfolding fromLittleEndian
 number-down b at n h = rw (drop-cons b at 0 h)
 
 -- ---- items one after the other

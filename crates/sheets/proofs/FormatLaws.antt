@@ -16,8 +16,8 @@ use Rattle.masks.specs.Text.{same}
 use Rattle.masks.proofs.Computed.{same-eq}
 use Rattle.masks.proofs.OrderLaws.{blades-le}
 use Rattle.masks.proofs.RefusalLaws.{past}
-use Rattle.sheets.specs.Format.{Sheet, flavorBytes, shapeBytes, patternBytes, sheetBytes, anyAboveNine, bladesOf, limits}
-use Rattle.sheets.specs.Reading.{shapeFrom, flavorFrom, isSheet}
+use Rattle.sheets.specs.Format.{Sheet, flavorBytes, shapeBytes, patternBytes, sheetBytes, anyAboveNine, bladeTotal, limits}
+use Rattle.sheets.specs.Read.{shapeFrom, flavorFrom, isSheet}
 use Rattle.sheets.proofs.BytesLaws.{littleEndian-length, section-length}
 
 -- ---- bytes
@@ -86,13 +86,13 @@ dims-at i [] h e = absurd (not-suc-le-zero h)
 dims-at zero (s ∷ ss) h e = ltb-false 9 (s .dims) (neither (ltb 9 (s .dims)) (anyAboveNine ss) e .0)
 dims-at (suc i) (s ∷ ss) h e = dims-at i ss (le-of-suc-le-suc h) (neither (ltb 9 (s .dims)) (anyAboveNine ss) e .1)
 
-pub bladesOf-append : (xs ys : List Shape) → bladesOf (xs ++ ys) ≡ bladesOf xs + bladesOf ys
-unfolding bladesOf
+pub bladesOf-append : (xs ys : List Shape) → bladeTotal (xs ++ ys) ≡ bladeTotal xs + bladeTotal ys
+unfolding bladeTotal
 bladesOf-append [] ys = omega arith
 bladesOf-append (s ∷ xs) ys = omega (arith, bladesOf-append xs ys)
 
-pub bladesOf-le : (ss : List Shape) → anyAboveNine ss ≡ false → bladesOf ss ≤ 512 * length ss
-unfolding anyAboveNine bladesOf
+pub bladesOf-le : (ss : List Shape) → anyAboveNine ss ≡ false → bladeTotal ss ≤ 512 * length ss
+unfolding anyAboveNine bladeTotal
 bladesOf-le [] e = omega arith
 bladesOf-le (s ∷ ss) e =
     let p = neither (ltb 9 (s .dims)) (anyAboveNine ss) e in
@@ -103,7 +103,7 @@ pub record Within (n : ℕ) (ss : List Shape) (m : ℕ) : Type 0 where
   pub small : anyAboveNine ss ≡ false
   pub few : n ≤ 64
   pub limited : m ≤ 4096
-  pub matched : m ≡ bladesOf ss
+  pub matched : m ≡ bladeTotal ss
 
 pub within : (n : ℕ) (ss : List Shape) (m : ℕ) → refusal (limits n ss m) ≡ 0 → Within n ss m
 within n ss m e =
@@ -120,7 +120,7 @@ within n ss m e =
 
 pub within-back : (n : ℕ) (ss : List Shape) (m : ℕ) → Within n ss m → refusal (limits n ss m) ≡ 0
 unfolding refusal
-within-back n ss m w = rw (w .small, le-ltb 64 n (w .few), le-ltb 4096 m (w .limited), eq-eqb m (bladesOf ss) (w .matched))
+within-back n ss m w = rw (w .small, le-ltb 64 n (w .few), le-ltb 4096 m (w .limited), eq-eqb m (bladeTotal ss) (w .matched))
 
 pub sheet-within : (s : Sheet) → isSheet s ≡ true → Within (length (s .shapes)) (s .shapes) (length (s .patterns))
 sheet-within s e = within (length (s .shapes)) (s .shapes) (length (s .patterns)) (eqb-true _ _ e)

@@ -16,10 +16,10 @@ use Rattle.masks.specs.Text.{same}
 use Rattle.masks.proofs.Computed.{both-true}
 use Rattle.masks.proofs.ListLaws.{getD-map}
 use Rattle.sheets.specs.declared.read.SheetRead.{SheetRead}
-use Rattle.sheets.specs.Bytes.{littleEndian, number, section, parts, countIn, itemsIn, afterSection}
-use Rattle.sheets.specs.Format.{Sheet, shapeBytes, patternBytes, sheetBytes, bladesOf, anyAboveNine}
-use Rattle.sheets.specs.Reading.{shapeFrom, said, isSheet, isSheetBytes, ReadOutcome, refusedSheet, aSheet, readSheet, Reads}
-use Rattle.sheets.specs.Checks.{isShape, areShapes, checked}
+use Rattle.sheets.specs.Bytes.{littleEndian, fromLittleEndian, section, parts, countIn, itemsIn, afterSection}
+use Rattle.sheets.specs.Format.{Sheet, shapeBytes, patternBytes, sheetBytes, bladeTotal, anyAboveNine}
+use Rattle.sheets.specs.Read.{shapeFrom, said, isSheet, isSheetBytes, ReadOutcome, refusedSheet, aSheet, readSheet, Reads}
+use Rattle.sheets.specs.inner.Checks.{isShape, areShapes, checked}
 use Rattle.sheets.proofs.BytesLaws.{AreBytes, littleEndian-number, take-bytes, drop-bytes, items-section, parts-length, getD-parts, allBytes-parts}
 use Rattle.sheets.proofs.FormatLaws.{shapeBytes-length, shapeFrom-shapeBytes, sheetBytes-length, same-true, same-refl, dims-at, sheet-within, within-sheet}
 
@@ -36,7 +36,7 @@ shapes-count b = length-map (itemsIn 2 5 b) shapeFrom ∙ parts-length 5 (shapes
 
 pub patterns-count : (b : List ℕ) → length (said b .patterns) ≡ patternsSaid b
 unfolding said
-patterns-count b = length-map (itemsIn 4 8 (afterSection 2 5 b)) number ∙ parts-length 8 (patternsSaid b) (drop 4 (afterSection 2 5 b))
+patterns-count b = length-map (itemsIn 4 8 (afterSection 2 5 b)) fromLittleEndian ∙ parts-length 8 (patternsSaid b) (drop 4 (afterSection 2 5 b))
 
 -- what is checked, one thing after the other
 pub record WellFormed (b : List ℕ) : Type 0 where
@@ -44,7 +44,7 @@ pub record WellFormed (b : List ℕ) : Type 0 where
   pub few : shapesSaid b ≤ 64
   pub shaped : 2 + 5 * shapesSaid b + 4 ≤ length b
   pub shapes : areShapes (itemsIn 2 5 b) ≡ true
-  pub matched : patternsSaid b ≡ bladesOf (map shapeFrom (itemsIn 2 5 b))
+  pub matched : patternsSaid b ≡ bladeTotal (map shapeFrom (itemsIn 2 5 b))
   pub limited : patternsSaid b ≤ 4096
   pub whole : length b ≡ 2 + 5 * shapesSaid b + 4 + 8 * patternsSaid b
 
@@ -128,7 +128,7 @@ well-formed b e =
     }
 
 -- the first w bytes come back from their number
-number-taken : (w : ℕ) (b : List ℕ) → AreBytes b → w ≤ length b → littleEndian w (number (take w b)) ≡ take w b
+number-taken : (w : ℕ) (b : List ℕ) → AreBytes b → w ≤ length b → littleEndian w (fromLittleEndian (take w b)) ≡ take w b
 number-taken w b h l = rw (length-take-le w b l) at (littleEndian-number (take w b) (take-bytes w b h))
 
 -- a section comes back from its items, where each comes back from its bytes
@@ -149,7 +149,7 @@ shape-taken n b i e h =
     sym (same-true c (shapeBytes (shapeFrom c)) (both-true (not (ltb 9 (getD c 0 0))) (same c (shapeBytes (shapeFrom c))) p .1))
 
 -- so does one of eight bytes from its number
-pattern-taken : (n : ℕ) (b : List ℕ) (i : ℕ) → AreBytes b → 8 * n ≤ length b → i < n → patternBytes (number (take 8 (drop (8 * i) b))) ≡ take 8 (drop (8 * i) b)
+pattern-taken : (n : ℕ) (b : List ℕ) (i : ℕ) → AreBytes b → 8 * n ≤ length b → i < n → patternBytes (fromLittleEndian (take 8 (drop (8 * i) b))) ≡ take 8 (drop (8 * i) b)
 pattern-taken n b i h l k = number-taken 8 (drop (8 * i) b) (drop-bytes (8 * i) b h) (omega (arith, length-drop (8 * i) b))
 
 sheet-taken : (b : List ℕ) → AreBytes b → WellFormed b → sheetBytes (said b) ≡ b
@@ -161,7 +161,7 @@ sheet-taken b h w =
     let l = length-drop n b in
     let m : 8 * patternsSaid b ≤ length (drop 4 a) = omega (arith, w .whole, length-drop 4 a) in
     ap₂ _++_ (section-taken shapeBytes shapeFrom 2 5 b h (omega (arith, w .shaped)) (λ i. shape-taken (shapesSaid b) (drop 2 b) i (w .shapes)))
-    (section-taken patternBytes number 4 8 a k (omega (arith, w .whole)) (λ i. pattern-taken (patternsSaid b) (drop 4 a) i (drop-bytes 4 a k) m)
+    (section-taken patternBytes fromLittleEndian 4 8 a k (omega (arith, w .whole)) (λ i. pattern-taken (patternsSaid b) (drop 4 a) i (drop-bytes 4 a k) m)
     ∙ take-all (4 + 8 * patternsSaid b) a (omega (arith, w .whole)))
     ∙ take-append-drop n b
 

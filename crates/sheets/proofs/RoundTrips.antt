@@ -17,12 +17,12 @@ use Rattle.masks.specs.Text.{same}
 use Rattle.masks.proofs.ListLaws.{split, take-laid}
 use Rattle.masks.proofs.RefusalLaws.{past, unless-done, unless-number}
 use Rattle.sheets.specs.declared.shapes.Shapes.{Shapes}
-use Rattle.sheets.specs.Bytes.{number, section, parts, itemsIn, afterSection}
-use Rattle.sheets.specs.Format.{Sheet, shapeBytes, patternBytes, sheetBytes, bladesOf, limits}
+use Rattle.sheets.specs.Bytes.{fromLittleEndian, section, parts, itemsIn, afterSection}
+use Rattle.sheets.specs.Format.{Sheet, shapeBytes, patternBytes, sheetBytes, bladeTotal, limits}
 use Rattle.sheets.specs.Shapes.{blankShapes, shapesOf, listedShapes}
-use Rattle.sheets.specs.Reading.{shapeFrom, said, isSheet, isSheetBytes, malformed, ReadOutcome, readSheet, aSheet, refusedSheet, Reads}
-use Rattle.sheets.specs.Writing.{sheetOf, writeSheet}
-use Rattle.sheets.specs.Checks.{checked}
+use Rattle.sheets.specs.Read.{shapeFrom, said, isSheet, isSheetBytes, malformed, ReadOutcome, readSheet, aSheet, refusedSheet, Reads}
+use Rattle.sheets.specs.Write.{sheetOf, writeSheet}
+use Rattle.sheets.specs.inner.Checks.{checked}
 use Rattle.sheets.proofs.BytesLaws.{AreBytes, littleEndian-length, number-littleEndian, number-lt, take-bytes, drop-bytes, items-section, after-section}
 use Rattle.sheets.proofs.FormatLaws.{shapeBytes-length, shapeFrom-shapeBytes, same-refl, sheet-within, within-sheet}
 use Rattle.sheets.proofs.PatternsLaws.{map-back}
@@ -69,7 +69,7 @@ module _ (s : Sheet) (e : isSheet s ≡ true) (h : ArePatterns (s .patterns)) wh
       let d = shapeOf 0 Vanilla in
       ap₂ (λ (ss : List Shape) (xs : List ℕ). record { shapes = ss; patterns = xs })
       (ap (map shapeFrom) (sheet-items s g) ∙ map-back shapeBytes shapeFrom d (s .shapes) (λ i l. shapeFrom-shapeBytes (getD (s .shapes) i d)))
-      (ap (map number) (sheet-patterns s g (omega (arith, w .limited))) ∙ map-back patternBytes number 0 (s .patterns) (λ i l. number-littleEndian 8 (getD (s .patterns) i 0) (h i)))
+      (ap (map fromLittleEndian) (sheet-patterns s g (omega (arith, w .limited))) ∙ map-back patternBytes fromLittleEndian 0 (s .patterns) (λ i l. number-littleEndian 8 (getD (s .patterns) i 0) (h i)))
 
   bytes-pass : isSheetBytes (sheetBytes s) ≡ true
   unfolding isSheetBytes
@@ -79,7 +79,7 @@ module _ (s : Sheet) (e : isSheet s ≡ true) (h : ArePatterns (s .patterns)) wh
   checked-zero = ap (λ (o : ReadOutcome). o .number) (accepts (sheetBytes s) bytes-pass)
 
 -- the number of each part of k bytes is below 256 ^ k
-number-parts : (k n : ℕ) (b : List ℕ) → AreBytes b → (i : ℕ) → getD (map number (parts k n b)) i 0 < 256 ^ k
+number-parts : (k n : ℕ) (b : List ℕ) → AreBytes b → (i : ℕ) → getD (map fromLittleEndian (parts k n b)) i 0 < 256 ^ k
 unfolding parts
 number-parts k zero b h i = one-le-pow k 256 (zero-lt-suc 255)
 number-parts k (suc n) b h zero =
@@ -147,7 +147,7 @@ writes : (s : Sheet) (room : ℕ) → isSheet s ≡ true → length (sheetBytes 
 unfolding writeSheet refusal unless
 writes s room e r =
     let w = sheet-within s e in
-    rw (listed-shapesOf (s .shapes), w .small, le-ltb 64 (length (s .shapes)) (w .few), le-ltb 4096 (length (s .patterns)) (w .limited), eq-eqb (length (s .patterns)) (bladesOf (s .shapes)) (w .matched), le-ltb room (length (sheetBytes s)) r)
+    rw (listed-shapesOf (s .shapes), w .small, le-ltb 64 (length (s .shapes)) (w .few), le-ltb 4096 (length (s .patterns)) (w .limited), eq-eqb (length (s .patterns)) (bladeTotal (s .shapes)) (w .matched), le-ltb room (length (sheetBytes s)) r)
 
 -- Written of what was read is the same bytes, a NaN's bits included.
 pub written-of-read : (b : List ℕ) (room room′ : ℕ) → readSheet b room .number ≡ 0 → length b ≤ room′ → writeSheet (shapesOf (readSheet b room .sheet .shapes)) (readSheet b room .sheet .patterns) room′ ≡ listed b

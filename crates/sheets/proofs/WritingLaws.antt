@@ -16,7 +16,7 @@ use Rattle.sheets.specs.declared.shapes.Shapes.{Shapes}
 use Rattle.sheets.specs.Bytes.{littleEndian, allBytes, section}
 use Rattle.sheets.specs.Format.{shapeBytes, patternBytes, sheetBytes, limits}
 use Rattle.sheets.specs.Shapes.{listedShapes}
-use Rattle.sheets.specs.Writing.{sheetOf}
+use Rattle.sheets.specs.Write.{sheetOf}
 use Rattle.sheets.proofs.BytesLaws.{littleEndian-length, allBytes-length}
 use Rattle.sheets.proofs.FormatLaws as format
 use Rattle.sheets.proofs.FormatLaws.{Within, shapeBytes-length, sheetBytes-length}

@@ -8,10 +8,10 @@ unfoldable pub littleEndian : ℕ → ℕ → List ℕ
 littleEndian zero x = []
 littleEndian (suc k) x = x % 256 ∷ littleEndian k (x / 256)
 
--- `number` is the number that bytes stand for, the lowest first.
-unfoldable pub number : List ℕ → ℕ
-number [] = 0
-number (b ∷ bs) = b + 256 * number bs
+-- `fromLittleEndian` is the number that bytes stand for, the lowest first.
+unfoldable pub fromLittleEndian : List ℕ → ℕ
+fromLittleEndian [] = 0
+fromLittleEndian (b ∷ bs) = b + 256 * fromLittleEndian bs
 
 -- `allBytes f` has the bytes of each item, one item after the other.
 unfoldable pub allBytes {ℓ} : {A : Type ℓ} → (A → List ℕ) → List A → List ℕ
@@ -30,7 +30,7 @@ parts k zero b = []
 parts k (suc n) b = take k b ∷ parts k n (drop k b)
 
 abbrev pub countIn : ℕ → List ℕ → ℕ
-countIn w b = number (take w b)
+countIn w b = fromLittleEndian (take w b)
 
 abbrev pub itemsIn : ℕ → ℕ → List ℕ → List (List ℕ)
 itemsIn w k b = parts k (countIn w b) (drop w b)

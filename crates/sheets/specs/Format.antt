@@ -41,9 +41,9 @@ anyAboveNine [] = false
 anyAboveNine (s ∷ ss) = ltb 9 (s .dims) || anyAboveNine ss
 
 -- The sum of the 2^d.
-unfoldable pub bladesOf : List Shape → ℕ
-bladesOf [] = 0
-bladesOf (s ∷ ss) = 2 ^ s .dims + bladesOf ss
+unfoldable pub bladeTotal : List Shape → ℕ
+bladeTotal [] = 0
+bladeTotal (s ∷ ss) = 2 ^ s .dims + bladeTotal ss
 
 -- The tests of a sheet of n shapes and m coefficients. 1: A dimension is above 9. 2: There are more than 64 shapes or 4,096 coefficients, or there are not as many coefficients as the sum of the 2^d.
 abbrev pub limits : ℕ → List Shape → ℕ → List Test
@@ -51,5 +51,5 @@ limits n ss m =
     record { fails = anyAboveNine ss; number = 1 } ∷
     record { fails = ltb 64 n; number = 2 } ∷
     record { fails = ltb 4096 m; number = 2 } ∷
-    record { fails = not (eqb m (bladesOf ss)); number = 2 } ∷
+    record { fails = not (eqb m (bladeTotal ss)); number = 2 } ∷
     []

@@ -1,9 +1,9 @@
--- The definitions that the contracts of `sheets` cite.
+-- The definitions that the contracts of `sheets` cite; those of private functions alone stand in inner.
 pub mod Bytes
 pub mod Format
 pub mod Shapes
-pub mod Reading
-pub mod Checks
-pub mod Writing
+pub mod Read
+pub mod Write
 pub mod Values
 pub mod Patterns
+pub mod inner

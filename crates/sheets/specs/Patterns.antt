@@ -5,14 +5,14 @@ use lib.Ieee.{Float, binary64, ofBits, toBits}
 use lib.ListN.{length}
 use Rattle.masks.specs.Outcome.{Written, refusal, noRoom, unless, refusedList, listed}
 
--- `turned f` is the call that turns each of a list's items as f does.
-unfoldable pub turned : {A B : Type 0} → (A → B) → List A → ℕ → Written B
-turned f xs room = unless refusedList (refusal (noRoom room (length xs) ∷ [])) (listed (map f xs))
+-- `converted f` is the call that turns each of a list's items as f does.
+unfoldable pub converted : {A B : Type 0} → (A → B) → List A → ℕ → Written B
+converted f xs room = unless refusedList (refusal (noRoom room (length xs) ∷ [])) (listed (map f xs))
 
 -- The number of a pattern; any NaN's pattern gives NaN.
 abbrev pub numbersOf : List ℕ → ℕ → Written Float
-numbersOf = turned (ofBits binary64)
+numbersOf = converted (ofBits binary64)
 
 -- The pattern of a number; NaN has the one pattern 7FF8000000000000.
 abbrev pub patternsOf : List Float → ℕ → Written ℕ
-patternsOf = turned (toBits binary64)
+patternsOf = converted (toBits binary64)

@@ -8,12 +8,12 @@ use Rattle.masks.specs.declared.shape.Shape.{Shape}
 use Rattle.masks.specs.Outcome.{Test, refusal, unless, shapeOf}
 use Rattle.sheets.specs.declared.shapes.Shapes.{Shapes}
 use Rattle.sheets.specs.declared.shapes.Placed.{Placed}
-use Rattle.sheets.specs.Format.{anyAboveNine, bladesOf}
+use Rattle.sheets.specs.Format.{anyAboveNine, bladeTotal}
 use Rattle.sheets.specs.Shapes.{listedShapes}
 
 -- Its patterns start after those of the shapes before it.
 abbrev pub startOf : List Shape → ℕ → ℕ
-startOf ss i = bladesOf (take i ss)
+startOf ss i = bladeTotal (take i ss)
 
 -- 1: A dimension is above 9. 2: So many shapes are not listed.
 abbrev pub valueTests : List Shape → ℕ → List Test

@@ -3,7 +3,7 @@ ghost use mathlib.Core.Path.{_≡_};
 ghost use Prim.Native.Nat.{_+_, _≤_};
 ghost use lib.ListN.{length, take, drop};
 ghost use lib.Seq.{sets};
-ghost use Rattle.sheets.specs.Bytes.{number, littleEndian};
+ghost use Rattle.sheets.specs.Bytes.{fromLittleEndian, littleEndian};
 
 fn wide(x: u8) -> u64
     ensures { λ r. ⌜ r ≡ x ⌝ }
@@ -14,7 +14,7 @@ fn wide(x: u8) -> u64
 // The number that `count` bytes from the place `at` on stand for.
 pub(crate) fn number_at(bytes: &[u8], at: usize, count: usize) -> u64
     requires { ⌜ (count ≤ 8) × (at + count ≤ length (now bytes)) ⌝ }
-    ensures { λ r. ⌜ r ≡ number (take count (drop at (now (bytes .entry)))) ⌝ }
+    ensures { λ r. ⌜ r ≡ fromLittleEndian (take count (drop at (now (bytes .entry)))) ⌝ }
 {
     let mut x: u64 = 0;
     let mut i = count;

@@ -17,10 +17,10 @@ ghost use mathlib.Core.List.{map};
 ghost use Prim.Native.Nat.{_+_, _*_, _≤_};
 ghost use lib.ListN.{length, take, drop};
 ghost use Rattle.masks.specs.Outcome.{laid};
-ghost use Rattle.sheets.specs.Bytes.{number, parts};
+ghost use Rattle.sheets.specs.Bytes.{fromLittleEndian, parts};
 ghost use Rattle.sheets.specs.Shapes.{shapesOf};
-ghost use Rattle.sheets.specs.Reading.{flavorFrom, shapeFrom, refusedSheet, readOf, Reads, readSheet};
-ghost use Rattle.sheets.specs.Checks.{isShape, areShapes, checked};
+ghost use Rattle.sheets.specs.Read.{flavorFrom, shapeFrom, refusedSheet, readOf, Reads, readSheet};
+ghost use Rattle.sheets.specs.inner.Checks.{isShape, areShapes, checked};
 
 // A sheet: its patterns are in the lent output.
 pub struct SheetRead {
@@ -146,7 +146,7 @@ fn check(bytes: &[u8]) -> SheetRead
 // The n patterns from the place `at` on.
 fn put_patterns(bytes: &[u8], at: usize, n: usize, out: &mut [u64])
     requires { ⌜ (at + 8 * n ≤ length (now bytes)) × (n ≤ length (now out)) ⌝ }
-    ensures { λ _. ⌜ now (out .exit) ≡ laid (map number (parts 8 n (drop at (now (bytes .entry))))) (now (out .entry)) ⌝ }
+    ensures { λ _. ⌜ now (out .exit) ≡ laid (map fromLittleEndian (parts 8 n (drop at (now (bytes .entry))))) (now (out .entry)) ⌝ }
 {
     let mut i: usize = 0;
     while i < n {

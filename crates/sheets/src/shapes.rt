@@ -11,7 +11,7 @@ ghost use mathlib.Core.Path.{_≡_};
 ghost use mathlib.Core.Bool.{false};
 ghost use Prim.Native.Nat.{_≤_, min};
 ghost use lib.ListN.{take};
-ghost use Rattle.sheets.specs.Format.{anyAboveNine, bladesOf};
+ghost use Rattle.sheets.specs.Format.{anyAboveNine, bladeTotal};
 ghost use Rattle.sheets.specs.Shapes.{blankShapes};
 ghost use Rattle.sheets.specs.Values.{refusedPlace, valueAt};
 
@@ -71,7 +71,7 @@ pub(crate) fn any_above_nine(shapes: Shapes, n: usize) -> bool
 // How many coefficients the first n shapes have.
 pub(crate) fn blades_of(shapes: Shapes, n: usize) -> usize
     requires { ⌜ (n ≤ 64) × (anyAboveNine (take n (shapes .held)) ≡ false) ⌝ }
-    ensures { λ r. ⌜ r ≡ bladesOf (take n (shapes .held)) ⌝ }
+    ensures { λ r. ⌜ r ≡ bladeTotal (take n (shapes .held)) ⌝ }
 {
     let mut sum: usize = 0;
     let mut i: usize = 0;

@@ -22,7 +22,7 @@ ghost use Rattle.masks.specs.Outcome.{refusal, noRoom, Writes};
 ghost use Rattle.sheets.specs.Bytes.{allBytes};
 ghost use Rattle.sheets.specs.Format.{shapeBytes, patternBytes, limits};
 ghost use Rattle.sheets.specs.Shapes.{listedShapes};
-ghost use Rattle.sheets.specs.Writing.{writeSheet};
+ghost use Rattle.sheets.specs.Write.{writeSheet};
 
 // How many bytes a sheet has.
 fn sheet_size(shapes: usize, patterns: usize) -> usize

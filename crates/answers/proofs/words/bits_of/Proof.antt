@@ -1,7 +1,6 @@
 -- `answers::words::bits_of` is safe: a number that equals itself is no NaN. Assumes nothing.
-use mathlib.Core.Path.{_≡_}
+use mathlib.Core.Path.{_≡_, sym}
 use mathlib.Core.Bool.{true, not, true≢false}
-use mathlib.Core.Path.{sym}
 use lib.Dec.{T}
 use lib.Ieee.{Float, nan, inf, fin, eq, isNan}
 use borrow.Author.Needs.{needs}

@@ -1,7 +1,7 @@
 -- `arithmetic::compare::answers_agree` meets its contract, variant by variant. Assumes nothing.
 use borrow.Author.Needs.{needs}
 use Rattle.arithmetic.specs.Scalar.{ifScalar}
-use Rattle.arithmetic.specs.Comparison.{answersAgree}
+use Rattle.arithmetic.specs.Compare.{answersAgree}
 use Rattle.arithmetic.proofs.compare.answers_agree.Statement.{statement}
 use Rattle.arithmetic.proofs.compare.answers_agree.Tie as tie
 

@@ -1,7 +1,7 @@
 -- `arithmetic::compare::compare_lists` meets its contract, by the tests on the way. Assumes nothing.
 use borrow.Author.Needs.{needs}
 use borrow.Author.Tests.{lt-ltb, le-ltb}
-use Rattle.arithmetic.specs.Comparison.{comparedCounts}
+use Rattle.arithmetic.specs.Compare.{comparedCounts}
 use Rattle.arithmetic.proofs.compare.compare_lists.Statement.{statement}
 use Rattle.arithmetic.proofs.compare.compare_lists.Tie as tie
 

@@ -1,6 +1,6 @@
 -- `arithmetic::compare::compare_numbers` meets its contract, by the tests on the way. Assumes nothing.
 use borrow.Author.Needs.{needs}
-use Rattle.arithmetic.specs.Comparison.{comparedNumbers}
+use Rattle.arithmetic.specs.Compare.{comparedNumbers}
 use Rattle.arithmetic.proofs.compare.compare_numbers.Statement.{statement}
 use Rattle.arithmetic.proofs.compare.compare_numbers.Tie as tie
 

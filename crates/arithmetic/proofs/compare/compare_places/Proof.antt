@@ -10,7 +10,7 @@ use lib.Seq.{drop-cons}
 use borrow.Author.Needs.{needs}
 use Rattle.arithmetic.specs.declared.outcome.Ordering.{Ordering}
 use Rattle.arithmetic.specs.declared.outcome.Ordering.the-variants.{Equal}
-use Rattle.arithmetic.specs.Comparison.{comparedNumbers, orElse, comparedPlaces}
+use Rattle.arithmetic.specs.Compare.{comparedNumbers, orElse, comparedPlaces}
 use Rattle.arithmetic.proofs.compare.compare_places.Statement.{statement}
 use Rattle.arithmetic.proofs.compare.compare_places.Tie as tie
 

@@ -1,7 +1,7 @@
 -- `arithmetic::compare::compare_values` meets its contract, variant by variant. Assumes nothing.
 use borrow.Author.Needs.{needs}
 use Rattle.arithmetic.specs.Scalar.{ifScalar}
-use Rattle.arithmetic.specs.Comparison.{comparedBy}
+use Rattle.arithmetic.specs.Compare.{comparedBy}
 use Rattle.arithmetic.proofs.compare.compare_values.Statement.{statement}
 use Rattle.arithmetic.proofs.compare.compare_values.Tie as tie
 

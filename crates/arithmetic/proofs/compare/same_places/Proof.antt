@@ -10,7 +10,7 @@ use lib.ListN.{length, getD, drop, drop-of-length-le}
 use lib.Seq.{drop-cons}
 use borrow.Author.Needs.{needs}
 use borrow.Author.Tests.{not-true, not-false}
-use Rattle.arithmetic.specs.Comparison.{sameNumber, samePlaces}
+use Rattle.arithmetic.specs.Compare.{sameNumber, samePlaces}
 use Rattle.arithmetic.proofs.compare.same_places.Statement.{statement}
 use Rattle.arithmetic.proofs.compare.same_places.Tie as tie
 

@@ -2,7 +2,7 @@
 use mathlib.Core.Path.{sym, _∙_}
 use borrow.Author.Needs.{needs}
 use lib.ListN.{length}
-use Rattle.arithmetic.specs.Duals.{dualOf}
+use Rattle.arithmetic.specs.Dual.{dualOf}
 use Rattle.arithmetic.proofs.KeptLaws.{fits}
 use Rattle.arithmetic.proofs.RegressiveLaws.{kept-refused, kept-done}
 use Rattle.arithmetic.proofs.dual.dual.Statement.{statement}

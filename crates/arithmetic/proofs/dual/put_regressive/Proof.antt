@@ -7,7 +7,7 @@ use lib.ListN.{length}
 use lib.Seq.{length-take-le}
 use Rattle.masks.proofs.OrderLaws.{blades-le}
 use Rattle.masks.proofs.ShapeLaws.{count-small}
-use Rattle.arithmetic.specs.Duals.{meetingDims}
+use Rattle.arithmetic.specs.Dual.{meetingDims}
 use Rattle.arithmetic.proofs.RegressiveLaws.{Meets, meeting-shape, gives-regressive}
 use Rattle.arithmetic.proofs.dual.put_regressive.Statement.{statement}
 use Rattle.arithmetic.proofs.dual.put_regressive.Tie as tie

@@ -4,7 +4,7 @@ use borrow.Author.Needs.{needs}
 use lib.ListN.{length}
 use Rattle.arithmetic.specs.Kept.{keptRefusal}
 use Rattle.arithmetic.specs.Scalar.{testOf, wasPlanar}
-use Rattle.arithmetic.proofs.KeptLaws.{Fits, fits}
+use Rattle.arithmetic.proofs.KeptLaws.{KeptFits, fits}
 use Rattle.arithmetic.proofs.InverseLaws.{gives-not-kept, gives-no-inverse, gives-inverse}
 use Rattle.arithmetic.proofs.inverse.inverted.Statement.{statement}
 use Rattle.arithmetic.proofs.inverse.inverted.Tie as tie
@@ -17,7 +17,7 @@ module _ (c : tie.Else1) where
   kept : keptRefusal (start .args .shape) (start .args .a .now) (length (start .args .out .now)) ≡ 0
   kept = sym (c .before .kept-refusal .ensures) ∙ c .if1 .left
 
-  value-fits : Fits (start .args .shape) (start .args .a .now) (length (start .args .out .now))
+  value-fits : KeptFits (start .args .shape) (start .args .a .now) (length (start .args .out .now))
   value-fits = fits _ _ _ kept
 
 kept-refusal-requires : tie.Need-kept-refusal-requires

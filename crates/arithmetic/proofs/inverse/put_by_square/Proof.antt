@@ -9,7 +9,7 @@ use lib.ListN.{length, getD, set, take, length-set, length-map}
 use lib.Seq.{length-take-le, getD-take}
 use Rattle.masks.specs.Outcome.{laid}
 use Rattle.masks.proofs.BladeLaws.{set-laid}
-use Rattle.arithmetic.specs.Kept.{scaled, reciprocal}
+use Rattle.arithmetic.specs.Scale.{scaled, reciprocal}
 use Rattle.arithmetic.specs.Inverse.{lessScalar, bySquare}
 use Rattle.arithmetic.proofs.KeptLaws.{scaled-length, set-laid as set-front}
 use Rattle.arithmetic.proofs.InverseLaws.{less-scalar-length, relaid, first-laid}

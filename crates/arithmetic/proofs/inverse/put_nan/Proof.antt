@@ -7,8 +7,7 @@ use lib.Ieee.{Float, nan, ofBits, ofFields, div}
 use lib.ListN.{length, getD, set, replicate, length-set, length-replicate, getD-replicate}
 use lib.Pow.{pow-pos}
 use lib.Seq.{drop-cons}
-use Rattle.masks.specs.Outcome.{laid}
-use Rattle.masks.specs.Shapes.{nought}
+use Rattle.masks.specs.Outcome.{laid, nought}
 use Rattle.masks.proofs.BladeLaws.{set-laid}
 use Rattle.masks.proofs.ListLaws.{front, front-length, front-step, front-all}
 use Rattle.arithmetic.specs.Inverse.{nanified}

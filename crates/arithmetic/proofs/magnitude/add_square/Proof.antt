@@ -1,7 +1,7 @@
 -- `arithmetic::magnitude::add_square` meets its contract, variant by variant: each literal is the metric's value. Assumes nothing.
 use borrow.Author.Needs.{needs}
 use lib.Ieee.{ofBits, ofFields, ofInt, round, neg}
-use Rattle.masks.specs.Flavors.{metricValue}
+use Rattle.masks.specs.Flavor.{metricValue}
 use Rattle.arithmetic.specs.Magnitude.{weighed}
 use Rattle.arithmetic.proofs.magnitude.add_square.Statement.{statement}
 use Rattle.arithmetic.proofs.magnitude.add_square.Tie as tie

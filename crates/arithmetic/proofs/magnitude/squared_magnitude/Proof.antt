@@ -4,7 +4,7 @@ use mathlib.Core.List.{[]}
 use borrow.Author.Needs.{needs}
 use lib.Ieee.{ofBits, ofFields}
 use lib.ListN.{length}
-use Rattle.masks.specs.Shapes.{refusedNumber}
+use Rattle.masks.specs.Outcome.{refusedReal}
 use Rattle.masks.proofs.RefusalLaws.{unless-refused, unless-done}
 use Rattle.masks.proofs.ShapeLaws.{holds-masks}
 use Rattle.masks.proofs.BladeLaws.{Valued, valued}
@@ -17,7 +17,7 @@ value-refusal-requires c κs = search needs
 
 returns : tie.Need-returns
 unfolding squaredMagnitude ofBits ofFields
-returns c = sym (unless-refused refusedNumber _ _ _ (c .before .value-refusal .ensures) (c .if1 .taken))
+returns c = sym (unless-refused refusedReal _ _ _ (c .before .value-refusal .ensures) (c .if1 .taken))
 
 order-of-requires : tie.Need-order-of-requires
 order-of-requires c κs = search needs
@@ -33,7 +33,7 @@ returns-2 : tie.Need-returns-2
 unfolding squaredMagnitude
 returns-2 c =
     let i = c .before .before .before .before in
-    rw (c .sum-squares .ensures) (sym (unless-done refusedNumber _ _ _ (i .before .value-refusal .ensures) (i .if1 .left)))
+    rw (c .sum-squares .ensures) (sym (unless-done refusedReal _ _ _ (i .before .value-refusal .ensures) (i .if1 .left)))
 
 pub squared-magnitude-spec : {M : Type 1} → statement M
 squared-magnitude-spec =

@@ -9,18 +9,18 @@ use lib.IntN.{ℤ}
 use lib.ListN.{length, getD}
 use Rattle.masks.proofs.OrderLaws.{blades-le, mask-read}
 use Rattle.product.specs.Pairwise.{maskAt}
-use Rattle.arithmetic.specs.Magnitude.{weight, weighed, squaresBelow}
+use Rattle.arithmetic.specs.Magnitude.{weight, weighed, weighedSum}
 use Rattle.arithmetic.proofs.magnitude.sum_squares.Statement.{statement}
 use Rattle.arithmetic.proofs.magnitude.sum_squares.Tie as tie
 
 abbrev Inv-loop : tie.InvT-loop
-Inv-loop flavor dims masks a all sum₀ i₀ sum i = (i ≤ length a) × (sum ≡ squaresBelow flavor dims a i)
+Inv-loop flavor dims masks a all sum₀ i₀ sum i = (i ≤ length a) × (sum ≡ weighedSum flavor dims a i)
 
 abbrev μ-loop : tie.MeasureT-loop
 μ-loop flavor dims masks a all sum₀ i₀ sum i = length a - i
 
 loop-holds : tie.Need-loop-holds Inv-loop μ-loop
-unfolding squaresBelow ofBits ofFields
+unfolding weighedSum ofBits ofFields
 loop-holds c = (omega arith, refl)
 
 mul-weight-of : tie.Need-mul-weight-of Inv-loop μ-loop
@@ -50,7 +50,7 @@ loop-less : tie.Need-loop-less Inv-loop μ-loop
 loop-less c = omega arith
 
 loop-again : tie.Need-loop-again Inv-loop μ-loop
-unfolding squaresBelow
+unfolding weighedSum
 loop-again c =
     let s = c .before .before .before .before .before .before .before .before in
     let a = s .args in
@@ -69,7 +69,7 @@ returns : tie.Need-returns Inv-loop μ-loop
 returns c =
     let s = c .before .before .before .before in
     let e : c .before .loop .i ≡ 2 ^ s .args .dims = omega (arith, s .pre .2) in
-    c .before .loop .inv .1 ∙ ap (squaresBelow (s .args .flavor) (s .args .dims) (s .args .a .now)) e
+    c .before .loop .inv .1 ∙ ap (weighedSum (s .args .flavor) (s .args .dims) (s .args .a .now)) e
 
 pub sum-squares-spec : {M : Type 1} → statement M
 sum-squares-spec =

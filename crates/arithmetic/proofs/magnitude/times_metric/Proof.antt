@@ -3,7 +3,7 @@ use mathlib.Core.Path.{sym}
 use borrow.Author.Needs.{needs}
 use lib.IntN.{zero-*ℤ}
 use Rattle.clifford.proofs.Ring.{one-mul}
-use Rattle.masks.specs.Flavors.{metricValue}
+use Rattle.masks.specs.Flavor.{metricValue}
 use Rattle.arithmetic.proofs.magnitude.times_metric.Statement.{statement}
 use Rattle.arithmetic.proofs.magnitude.times_metric.Tie as tie
 

@@ -11,7 +11,7 @@ use lib.Pow.{shr-shr}
 use Rattle.clifford.specs.Blade.{has}
 use Rattle.clifford.specs.Metric.{shared}
 use Rattle.clifford.proofs.Ring.{mul-one}
-use Rattle.masks.specs.Flavors.{metricOf, metricValue}
+use Rattle.masks.specs.Flavor.{metricOf, metricValue}
 use Rattle.arithmetic.specs.Magnitude.{weight}
 use Rattle.arithmetic.proofs.magnitude.weight_of.Statement.{statement}
 use Rattle.arithmetic.proofs.magnitude.weight_of.Tie as tie

@@ -9,7 +9,7 @@ use Rattle.masks.specs.declared.shape.Shape.{Shape}
 use Rattle.masks.specs.declared.outcome.Answer.{Answer}
 use Rattle.masks.specs.declared.outcome.Answers.{Answers}
 use Rattle.masks.specs.Outcome.{Pair, Gives, GivesBoth, unless, answerOf, value, refusedValue, refusedPair, laid}
-use Rattle.masks.specs.Shapes.{conformedShape, conform}
+use Rattle.masks.specs.Shape.{conformedShape, conform}
 use Rattle.masks.proofs.ListLaws.{take-laid}
 use Rattle.masks.proofs.OrderLaws.{blades-le}
 use Rattle.masks.proofs.ShapeLaws.{count-small}

@@ -10,7 +10,7 @@ use lib.Seq.{getD-take}
 use Rattle.masks.specs.declared.shape.Shape.{Shape}
 use Rattle.masks.specs.declared.outcome.Answer.{Answer}
 use Rattle.masks.specs.Outcome.{Gives, laid}
-use Rattle.masks.specs.Shapes.{conformTo}
+use Rattle.masks.specs.Shape.{conformTo}
 use Rattle.arithmetic.specs.declared.operators.Sum.{Sum}
 use Rattle.arithmetic.specs.Operators.{withCoefs, summed, summedAt0}
 use Rattle.arithmetic.proofs.KeptLaws.{set-laid}

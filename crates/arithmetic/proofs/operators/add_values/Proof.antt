@@ -8,7 +8,7 @@ use lib.ListN.{length}
 use Rattle.masks.specs.declared.shape.Shape.{Shape}
 use Rattle.masks.specs.declared.outcome.Answer.{Answer}
 use Rattle.masks.specs.Outcome.{Outcome, Gives}
-use Rattle.masks.specs.Shapes.{conformTo, conform}
+use Rattle.masks.specs.Shape.{conformTo, conform}
 use Rattle.masks.proofs.RefusalLaws.{gives-refused}
 use Rattle.arithmetic.specs.declared.operators.Sum.{Sum}
 use Rattle.arithmetic.specs.declared.scalar.ScalarTest.{ScalarTest}

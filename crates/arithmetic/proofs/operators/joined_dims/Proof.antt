@@ -6,7 +6,7 @@ use Prim.Native.Nat.{ℕ, _+_, max}
 use native.Mathlib.Nat.{add-zero, max-eq-left, max-eq-right}
 use native.Mathlib.Omega.{arith}
 use Rattle.masks.specs.declared.shape.Shape.{Shape}
-use Rattle.masks.specs.Shapes.{promotes}
+use Rattle.masks.specs.Shape.{promotes}
 use Rattle.masks.proofs.ChangeLaws.{promotes-le}
 use Rattle.arithmetic.specs.Operators.{joinedDims}
 use borrow.Author.Needs.{needs}

@@ -6,7 +6,7 @@ use Prim.Native.Nat.{_^_}
 use native.Mathlib.Omega.{arith}
 use lib.Ieee.{Float, binary64, eq, mul}
 use Rattle.masks.proofs.ShapeLaws.{count-small}
-use Rattle.arithmetic.specs.Kept.{unit, scaled}
+use Rattle.arithmetic.specs.Scale.{unity, scaled}
 use Rattle.arithmetic.proofs.KeptLaws.{scaled-length}
 use Rattle.arithmetic.proofs.OperatorLaws.{conformed-facts, changed-none, changed}
 use borrow.Author.Needs.{needs}
@@ -22,7 +22,7 @@ blade-count-requires c κs = search needs
 -- Nothing, multiplied, is nothing.
 scaled-none : (f : Float) → scaled f [] ≡ []
 unfolding scaled
-scaled-none f = go (eq f unit)
+scaled-none f = go (eq f unity)
   where
     go : (b : Bool) → cond b [] (map (λ (x : Float). mul binary64 x f) []) ≡ []
     go true = refl

@@ -9,7 +9,7 @@ use lib.Dec.{eqb}
 use lib.IntN.{ℤ, pos, negsuc}
 use mir.Syntax.{w32}
 use mir.Val.{SFits, ofZ}
-use Rattle.arithmetic.specs.Powers.{sizeOf, isDirect}
+use Rattle.arithmetic.specs.Power.{sizeOf, isDirect}
 use Rattle.arithmetic.proofs.power.is_direct.Statement.{statement}
 use Rattle.arithmetic.proofs.power.is_direct.Tie as tie
 

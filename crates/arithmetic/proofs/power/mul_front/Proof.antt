@@ -9,23 +9,23 @@ use lib.ListN.{length, take}
 use lib.Seq.{length-take-le}
 use Rattle.masks.specs.declared.outcome.Answer.{Answer}
 use Rattle.masks.specs.declared.shape.Shape.{Shape}
-use Rattle.masks.specs.Flavors.{addedDims}
+use Rattle.masks.specs.Flavor.{addedDims}
 use Rattle.masks.specs.Outcome.{Gives, laid}
-use Rattle.masks.specs.Shapes.{withDims, setDims}
+use Rattle.masks.specs.Shape.{withDims, setDims}
 use Rattle.masks.proofs.OrderLaws.{blades-le}
 use Rattle.masks.proofs.ShapeLaws.{count-small}
-use Rattle.arithmetic.specs.Operators.{multiply}
+use Rattle.arithmetic.specs.Operators.{multiplication}
 use Rattle.arithmetic.proofs.PowerLaws.{copied-on, grown-length}
 use Rattle.arithmetic.proofs.power.mul_front.Statement.{statement}
 use Rattle.arithmetic.proofs.power.mul_front.Tie as tie
 
 replaced : (g s : Shape) (n : ℕ) (x buf held out after : List Float) (q r : Answer) → g ≡ withDims s (s .dims + addedDims (s .flavor)) → g .dims ≤ 9 → n ≡ 2 ^ g .dims → length x ≡ 2 ^ s .dims → 2 ^ g .dims ≤ length out
-    → Gives (multiply g s (take n out) x 512) q buf held → Gives (setDims g (g .dims) (take n held) (length out)) r out after → after ≡ laid (multiply g s (take (2 ^ g .dims) out) x 512 .coefs) out
+    → Gives (multiplication g s (take n out) x 512) q buf held → Gives (setDims g (g .dims) (take n held) (length out)) r out after → after ≡ laid (multiplication g s (take (2 ^ g .dims) out) x 512 .coefs) out
 replaced g s n x buf held out after q r e h c k m f t =
     let d : g .dims ≡ s .dims + addedDims (s .flavor) = ap (λ (u : Shape). u .dims) e in
-    copied-on g n (multiply g s (take n out) x 512 .coefs) buf held out after r h c
+    copied-on g n (multiplication g s (take n out) x 512 .coefs) buf held out after r h c
     (grown-length g s (take n out) x (ap (λ (u : Shape). u .flavor) e) (omega arith) h (length-take-le n out (omega arith) ∙ c) k) m (f .left) t
-    ∙ ap (λ (j : ℕ). laid (multiply g s (take j out) x 512 .coefs) out) c
+    ∙ ap (λ (j : ℕ). laid (multiplication g s (take j out) x 512 .coefs) out) c
 
 module _ (c : tie.After-blade-count) where
   counted : c .blade-count .result ≡ 2 ^ c .before .before .before .args .grown .dims

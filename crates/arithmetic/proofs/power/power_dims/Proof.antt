@@ -9,8 +9,8 @@ use mir.Syntax.{w32}
 use mir.Val.{SFits, toZ, ofZ}
 use mir.ValLaws.{toZ-ofZ}
 use Rattle.masks.specs.declared.shape.Shape.{Shape}
-use Rattle.masks.specs.Flavors.{addedDims}
-use Rattle.arithmetic.specs.Powers.{sizeOf, isDirect, powerDims}
+use Rattle.masks.specs.Flavor.{addedDims}
+use Rattle.arithmetic.specs.Power.{sizeOf, isDirect, powerDims}
 use Rattle.arithmetic.proofs.PowerLaws.{added-le}
 use Rattle.arithmetic.proofs.power.power_dims.Statement.{statement}
 use Rattle.arithmetic.proofs.power.power_dims.Tie as tie

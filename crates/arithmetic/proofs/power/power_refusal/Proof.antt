@@ -17,8 +17,8 @@ use Rattle.masks.specs.Outcome.{refusal}
 use Rattle.masks.proofs.ChangeLaws.{checks, checked, checks-same}
 use Rattle.masks.proofs.RefusalLaws.{taken, refused-already}
 use Rattle.arithmetic.specs.Scalar.{testOf, wasPlanar}
-use Rattle.arithmetic.specs.Powers.{isNegative, sizeOf, powerDims, powerRefusal}
-use Rattle.arithmetic.proofs.PowerLaws.{below-zero, and-both, not-both, Fits, refused-five, refused-six, refused-none}
+use Rattle.arithmetic.specs.Power.{isNegative, sizeOf, powerDims, powerRefusal}
+use Rattle.arithmetic.proofs.PowerLaws.{below-zero, and-both, not-both, PowerFits, refused-five, refused-six, refused-none}
 use Rattle.arithmetic.proofs.power.power_refusal.Statement.{statement}
 use Rattle.arithmetic.proofs.power.power_refusal.Tie as tie
 
@@ -56,7 +56,7 @@ module _ (c : tie.After-refusal-of) where
   unfolding powerRefusal
   first-refused h = number ∙ sym (refused-already (checks (s .dims) n (length xs) (a .args .room) (2 ^ n)) _ (λ e. h (number ∙ e)))
 
-  fits : c .refusal-of .result ≡ 0 → Fits s z xs (a .args .room)
+  fits : c .refusal-of .result ≡ 0 → PowerFits s z xs (a .args .room)
   fits e =
       let t = taken (s .dims) n (length xs) (a .args .room) (2 ^ n) (sym number ∙ e) in
       record { small = t .small; result = t .result; counted = t .counted; roomy = t .roomy }

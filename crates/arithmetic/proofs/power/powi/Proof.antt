@@ -14,11 +14,11 @@ use mir.ValLaws.{toZ-ofZ}
 use Rattle.masks.specs.declared.outcome.Answer.{Answer}
 use Rattle.masks.specs.declared.shape.Shape.{Shape}
 use Rattle.masks.specs.Outcome.{Gives, laid, value, refusedValue, answerOf}
-use Rattle.masks.specs.Shapes.{withDims}
+use Rattle.masks.specs.Shape.{withDims}
 use Rattle.masks.proofs.RefusalLaws.{gives-refused, gives-done}
 use Rattle.arithmetic.specs.Scalar.{testOf, wasPlanar}
-use Rattle.arithmetic.specs.Powers.{isNegative, sizeOf, powerDims, powerOf, powerRefusal, power}
-use Rattle.arithmetic.proofs.PowerLaws.{Fits, none-refused}
+use Rattle.arithmetic.specs.Power.{isNegative, sizeOf, powerDims, powerOf, powerRefusal, power}
+use Rattle.arithmetic.proofs.PowerLaws.{PowerFits, none-refused}
 use Rattle.arithmetic.proofs.power.powi.Statement.{statement}
 use Rattle.arithmetic.proofs.power.powi.Tie as tie
 
@@ -39,7 +39,7 @@ module _ (s : Shape) (y z : ℤ) (a out : List Float) (b : y ≡ z) (no : ℕ) (
   not-done r h q = gives-refused (powerRefusal s z a (length out)) no _ r out number h q
 
   module _ (d : no ≡ 0) where
-    known : Fits s z a (length out) × ((isNegative z && wasPlanar (testOf s a)) ≡ false) × (sizeOf z ≡ 2 ^ 31 → ⊥)
+    known : PowerFits s z a (length out) × ((isNegative z && wasPlanar (testOf s a)) ≡ false) × (sizeOf z ≡ 2 ^ 31 → ⊥)
     known = none-refused s z a (length out) (sym number ∙ d)
 
     asked : SFits w32 z → ((powerDims s (sizeOf y) ≤ 9) × (s .dims ≤ 9) × (sizeOf y < 2 ^ 31) × ((isNegative y && wasPlanar (testOf s a)) ≡ false)) × (length a ≡ 2 ^ s .dims) × (2 ^ powerDims s (sizeOf y) ≤ length out)

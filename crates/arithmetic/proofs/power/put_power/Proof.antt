@@ -15,7 +15,7 @@ use Rattle.masks.specs.Outcome.{laid}
 use Rattle.masks.proofs.ListLaws.{take-laid}
 use Rattle.masks.proofs.OrderLaws.{blades-le}
 use Rattle.arithmetic.specs.Inverse.{inverseOf}
-use Rattle.arithmetic.specs.Powers.{isNegative, sizeOf, powerDims, raisedTo, powerOf}
+use Rattle.arithmetic.specs.Power.{isNegative, sizeOf, powerDims, raisedTo, powerOf}
 use Rattle.arithmetic.proofs.InverseLaws.{inverse-length}
 use Rattle.arithmetic.proofs.PowerLaws.{below-zero}
 use Rattle.arithmetic.proofs.power.put_power.Statement.{statement}

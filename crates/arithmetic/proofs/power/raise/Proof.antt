@@ -7,10 +7,10 @@ use borrow.Author.Needs.{needs}
 use borrow.Author.Tests.{eq-eqb, ne-eqb}
 use lib.Ieee.{Float}
 use Rattle.masks.specs.declared.shape.Shape.{Shape}
-use Rattle.masks.specs.Flavors.{addedDims}
+use Rattle.masks.specs.Flavor.{addedDims}
 use Rattle.masks.specs.Outcome.{laid}
 use Rattle.arithmetic.specs.Inverse.{squared}
-use Rattle.arithmetic.specs.Powers.{isDirect, powerDims, byDigits, raisedTo}
+use Rattle.arithmetic.specs.Power.{isDirect, powerDims, byDigits, raisedTo}
 use Rattle.arithmetic.proofs.PowerLaws.{copied-front}
 use Rattle.arithmetic.proofs.power.raise.Statement.{statement}
 use Rattle.arithmetic.proofs.power.raise.Tie as tie

@@ -15,20 +15,20 @@ use lib.Seq.{length-take-le}
 use Rattle.masks.specs.declared.outcome.Answer.{Answer}
 use Rattle.masks.specs.declared.shape.Shape.{Shape}
 use Rattle.masks.specs.Build.{atGrade, scalar}
-use Rattle.masks.specs.Flavors.{addedDims}
+use Rattle.masks.specs.Flavor.{addedDims}
 use Rattle.masks.specs.Order.{start}
 use Rattle.masks.specs.Outcome.{Outcome, Gives, value, laid}
-use Rattle.masks.specs.Shapes.{withDims}
+use Rattle.masks.specs.Shape.{withDims}
 use Rattle.masks.proofs.BuildLaws.{length-grade-set, one-built}
 use Rattle.masks.proofs.ListLaws.{laid-length, take-laid}
 use Rattle.masks.proofs.OrderLaws.{blades-le}
 use Rattle.product.specs.declared.mode.Mode.the-variants.{All}
 use Rattle.product.proofs.GatherLaws.{product-length}
-use Rattle.arithmetic.specs.Kept.{unit}
-use Rattle.arithmetic.specs.Operators.{multiply}
-use Rattle.arithmetic.specs.Duals.{ample}
+use Rattle.arithmetic.specs.Scale.{unity}
+use Rattle.arithmetic.specs.Operators.{multiplication}
+use Rattle.arithmetic.specs.Dual.{ample}
 use Rattle.arithmetic.specs.Inverse.{squared}
-use Rattle.arithmetic.specs.Powers.{raised, byDigits}
+use Rattle.arithmetic.specs.Power.{raised, byDigits}
 use Rattle.arithmetic.proofs.KeptLaws.{laid-again}
 use Rattle.arithmetic.proofs.PowerLaws.{raised-none, raised-next, copied-front, grown-length}
 use Rattle.arithmetic.proofs.power.raise_by_digits.Statement.{statement}
@@ -67,7 +67,7 @@ abbrev grown : Shape → Shape
 grown s = withDims s (s .dims + addedDims (s .flavor))
 
 abbrev one : Shape → List Float
-one s = scalar (s .dims) unit (s .flavor) ample .coefs
+one s = scalar (s .dims) unity (s .flavor) ample .coefs
 
 module _ {s : Shape} {power : ℕ} {x out₀ base₀ out base : List Float} where
   module _ {f : List Float → List Float} {p : ℕ} (t : Left s power x out₀ base₀ f out base p) where
@@ -82,7 +82,7 @@ module _ {s : Shape} {power : ℕ} {x out₀ base₀ out base : List Float} wher
 
     -- The value times the base.
     abbrev times : List Float
-    times = multiply (grown s) s (t .r) (t .b) ample .coefs
+    times = multiplication (grown s) s (t .r) (t .b) ample .coefs
 
     module _ (i : 0 < p) (out′ : List Float) where
       taken : (r′ : List Float) → r′ ≡ cond (eqb (p % 2) 1) times (t .r) → length r′ ≡ 2 ^ grown s .dims → out′ ≡ laid r′ out₀ → Left s power x out₀ base₀ (squared s) out′ base (p / 2)
@@ -101,7 +101,7 @@ module _ {s : Shape} {power : ℕ} {x out₀ base₀ out base : List Float} wher
           }
 
       odd : (g : Shape) (j : ℕ) → grown s .dims ≤ 9 → g ≡ grown s → j ≡ 2 ^ s .dims → p % 2 ≡ 1
-          → out′ ≡ laid (multiply g s (take (2 ^ g .dims) out) (take j base) 512 .coefs) out → Left s power x out₀ base₀ (squared s) out′ base (p / 2)
+          → out′ ≡ laid (multiplication g s (take (2 ^ g .dims) out) (take j base) 512 .coefs) out → Left s power x out₀ base₀ (squared s) out′ base (p / 2)
       odd g j h e f d q =
           let l = grown-length (grown s) s (t .r) (t .b) refl (omega arith) h (t .long) (t .wide) in
           taken times (rw (eq-eqb (p % 2) 1 d)) l
@@ -149,17 +149,17 @@ module _ {s : Shape} {power : ℕ} {x out₀ base₀ out base : List Float} wher
 -- ---- the start and the end
 
 module _ (s : Shape) (h : grown s .dims ≤ 9) where
-  built : (room : ℕ) → 2 ^ grown s .dims ≤ room → scalar (s .dims) unit (s .flavor) room ≡ value (grown s) (atGrade (grown s .dims) 0 (unit ∷ []))
+  built : (room : ℕ) → 2 ^ grown s .dims ≤ room → scalar (s .dims) unity (s .flavor) room ≡ value (grown s) (atGrade (grown s .dims) 0 (unity ∷ []))
   unfolding scalar
-  built room l = one-built (grown s .dims) 0 (unit ∷ []) (s .flavor) room h l
+  built room l = one-built (grown s .dims) 0 (unity ∷ []) (s .flavor) room h l
 
   one-length : length (one s) ≡ 2 ^ grown s .dims
   unfolding start
   one-length =
       let l : 0 + 1 ≤ 2 ^ grown s .dims = omega (arith, pow-pos (grown s .dims)) in
-      ap (λ (o : Outcome). length (o .coefs)) (built ample (blades-le _ h)) ∙ length-grade-set (grown s .dims) 0 (unit ∷ []) l
+      ap (λ (o : Outcome). length (o .coefs)) (built ample (blades-le _ h)) ∙ length-grade-set (grown s .dims) 0 (unity ∷ []) l
 
-  module _ {out after : List Float} {q : Answer} (l : 2 ^ grown s .dims ≤ length out) (g : Gives (scalar (s .dims) unit (s .flavor) (length out)) q out after) where
+  module _ {out after : List Float} {q : Answer} (l : 2 ^ grown s .dims ≤ length out) (g : Gives (scalar (s .dims) unity (s .flavor) (length out)) q out after) where
     begun-shape : q .shape ≡ grown s
     begun-shape = ap (λ (a : Answer). a .shape) (g .answered) ∙ ap (λ (o : Outcome). o .shape) (built (length out) l)
 

@@ -12,7 +12,7 @@ use mir.Facts.{toZ-pos}
 use mir.Syntax.{w32}
 use mir.Val.{Fits, SFits, toZ, ofZ}
 use mir.ValLaws.{toZ-ofZ}
-use Rattle.arithmetic.specs.Powers.{isNegative, sizeOf}
+use Rattle.arithmetic.specs.Power.{isNegative, sizeOf}
 use Rattle.arithmetic.proofs.PowerLaws.{below-zero}
 use Rattle.arithmetic.proofs.power.size_of.Statement.{statement}
 use Rattle.arithmetic.proofs.power.size_of.Tie as tie

@@ -10,7 +10,7 @@ use lib.Seq.{length-take-le}
 use Rattle.masks.specs.declared.outcome.Answer.{Answer}
 use Rattle.masks.specs.declared.shape.Shape.{Shape}
 use Rattle.masks.specs.Outcome.{Gives, laid}
-use Rattle.masks.specs.Shapes.{setDims}
+use Rattle.masks.specs.Shape.{setDims}
 use Rattle.masks.proofs.OrderLaws.{blades-le}
 use Rattle.product.specs.declared.mode.Mode.the-variants.{All}
 use Rattle.product.proofs.GatherLaws.{product-length}

@@ -15,7 +15,7 @@ use Rattle.masks.proofs.RefusalLaws.{past, later-same, refused-already, gives-r
 use Rattle.masks.proofs.ChangeLaws.{passed}
 use Rattle.arithmetic.specs.Scalar.{testOf, wasPlanar}
 use Rattle.arithmetic.specs.Operators.{pairTests, isOther}
-use Rattle.arithmetic.specs.Inverse.{quotientDims, quotient}
+use Rattle.arithmetic.specs.Quotient.{quotientDims, quotient}
 use Rattle.arithmetic.proofs.InverseLaws.{inverse-length, quotient-by-scalar, gives-planar, quotient-by-other}
 use Rattle.arithmetic.proofs.quotient.div.Statement.{statement}
 use Rattle.arithmetic.proofs.quotient.div.Tie as tie

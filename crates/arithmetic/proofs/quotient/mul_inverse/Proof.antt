@@ -9,7 +9,7 @@ use lib.ListN.{length, take}
 use Rattle.masks.specs.Outcome.{Gives}
 use Rattle.masks.proofs.ListLaws.{take-laid}
 use Rattle.masks.proofs.OrderLaws.{blades-le}
-use Rattle.arithmetic.specs.Operators.{multiply}
+use Rattle.arithmetic.specs.Operators.{multiplication}
 use Rattle.arithmetic.specs.Inverse.{inverseOf}
 use Rattle.arithmetic.proofs.quotient.mul_inverse.Statement.{statement}
 use Rattle.arithmetic.proofs.quotient.mul_inverse.Tie as tie
@@ -52,7 +52,7 @@ returns : tie.Need-returns
 returns c =
     let d = c .before .before .before .before .before .before .before in
     let a = d .before .before .before .before .before .args in
-    subst (λ (xs : List Float). Gives (multiply (a .left) (a .right) (a .a .now) xs (length (a .out .now))) (c .before .before .mul .result) (a .out .now) (c .before .before .mul .last .1 .1 .1 .1 .0)) (lent d) (c .before .before .mul .ensures)
+    subst (λ (xs : List Float). Gives (multiplication (a .left) (a .right) (a .a .now) xs (length (a .out .now))) (c .before .before .mul .result) (a .out .now) (c .before .before .mul .last .1 .1 .1 .1 .0)) (lent d) (c .before .before .mul .ensures)
 
 pub mul-inverse-spec : {M : Type 1} → statement M
 mul-inverse-spec =

@@ -2,7 +2,7 @@
 use mathlib.Core.List.{List}
 use borrow.Author.Needs.{needs}
 use lib.Ieee.{Float}
-use Rattle.arithmetic.specs.Kept.{invReversed}
+use Rattle.arithmetic.specs.Reverse.{invReversed}
 use Rattle.arithmetic.proofs.KeptLaws.{copy-refused}
 use Rattle.arithmetic.proofs.ReverseLaws.{inv-reversed-length, copy-turned, copy-roomy}
 use Rattle.arithmetic.proofs.reverse.inv_reverse.Statement.{statement}

@@ -14,16 +14,16 @@ use lib.Ieee.{Float, nan}
 use lib.ListN.{length, getD, take, drop, length-drop, take-append-drop}
 use lib.Seq.{length-take-le, getD-take, getD-drop, take-add, drop-drop, take-at, drop-at, ext-getD}
 use Rattle.masks.specs.declared.outcome.Count.{Count}
-use Rattle.masks.specs.Order.{size, start}
+use Rattle.masks.specs.Order.{size, start, gradeSize}
 use Rattle.masks.specs.Outcome.{refusal, unless}
-use Rattle.masks.specs.Shapes.{gradeSize, negatedIf}
+use Rattle.masks.specs.Shape.{negatedIf}
 use Rattle.masks.proofs.ListLaws.{front, front-length, front-all}
 use Rattle.masks.proofs.OrderLaws.{part-fits, start-next, start-all, order-ones}
 use Rattle.masks.proofs.ShapeLaws.{part-length, part-at}
 use Rattle.product.specs.Pairwise.{maskAt}
 use Rattle.product.specs.Reverse.{reversed}
 use Rattle.product.proofs.ReversedLaws.{reversed-at}
-use Rattle.arithmetic.specs.Kept.{invReversed}
+use Rattle.arithmetic.specs.Reverse.{invReversed}
 use Rattle.arithmetic.proofs.ReverseLaws.{reversed-length, inv-reversed-length, inv-reversed-at}
 use Rattle.arithmetic.proofs.reverse.turn_grades.Statement.{statement}
 use Rattle.arithmetic.proofs.reverse.turn_grades.Tie as tie

@@ -7,8 +7,7 @@ use native.Mathlib.Omega.{arith}
 use lib.Ieee.{Float, nan, ofBits, ofFields}
 use lib.ListN.{length, getD, set, take, getD-replicate}
 use lib.Seq.{length-take-le}
-use Rattle.masks.specs.Shapes.{nought}
-use Rattle.masks.specs.Outcome.{laid}
+use Rattle.masks.specs.Outcome.{nought, laid}
 use Rattle.masks.proofs.ListLaws.{front, front-length, front-step, front-all}
 use Rattle.arithmetic.specs.Kept.{scalarOnly}
 use Rattle.arithmetic.proofs.KeptLaws.{scalar-only-length}

@@ -9,8 +9,8 @@ use lib.ListN.{length, getD, set, drop, length-set, List·getD-append}
 use lib.Pow.{pow-pos}
 use Rattle.masks.specs.declared.shape.Shape.{Shape}
 use Rattle.masks.specs.declared.outcome.Answer.{Answer}
-use Rattle.masks.specs.Outcome.{Gives}
-use Rattle.masks.specs.Shapes.{nought, setDims}
+use Rattle.masks.specs.Outcome.{Gives, nought}
+use Rattle.masks.specs.Shape.{setDims}
 use Rattle.masks.proofs.RefusalLaws.{unless-refused, unless-done}
 use Rattle.arithmetic.specs.declared.outcome.Taken.{Taken}
 use Rattle.arithmetic.specs.Kept.{keptRefusal, withoutScalar, takeScalar, GivesTaken}

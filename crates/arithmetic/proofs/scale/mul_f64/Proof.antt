@@ -1,6 +1,6 @@
 -- `arithmetic::scale::mul_f64` meets its contract: a copy, scaled where it lies. Assumes nothing.
 use borrow.Author.Needs.{needs}
-use Rattle.arithmetic.specs.Kept.{scaled}
+use Rattle.arithmetic.specs.Scale.{scaled}
 use Rattle.arithmetic.proofs.KeptLaws.{copy-refused, copy-room, copy-changed, scaled-length}
 use Rattle.arithmetic.proofs.scale.mul_f64.Statement.{statement}
 use Rattle.arithmetic.proofs.scale.mul_f64.Tie as tie

@@ -6,7 +6,7 @@ use native.Mathlib.Omega.{arith}
 use lib.Ieee.{Float, binary64, mul, ofBits, ofFields}
 use lib.ListN.{length, take}
 use Rattle.masks.proofs.ListLaws.{front}
-use Rattle.arithmetic.specs.Kept.{scaled}
+use Rattle.arithmetic.specs.Scale.{scaled}
 use Rattle.arithmetic.proofs.KeptLaws.{same-laid, changed-room, changed-step, changed-all}
 use Rattle.arithmetic.proofs.scale.scale.Statement.{statement}
 use Rattle.arithmetic.proofs.scale.scale.Tie as tie

@@ -2,7 +2,7 @@
 use mathlib.Core.Path.{ap, _∙_}
 use borrow.Author.Needs.{needs}
 use Rattle.masks.specs.declared.shape.Shape.{Shape}
-use Rattle.masks.specs.Shapes.{getBlade}
+use Rattle.masks.specs.Blade.{getBlade}
 use Rattle.exports.specs.Told.{TellsNumber}
 use Rattle.exports.proofs.ToldLaws.{same-told}
 use Rattle.exports.proofs.blades.thresholm_get_blade.Statement.{statement}

@@ -2,7 +2,7 @@
 use mathlib.Core.Path.{ap, _∙_}
 use borrow.Author.Needs.{needs}
 use Rattle.masks.specs.declared.shape.Shape.{Shape}
-use Rattle.masks.specs.Shapes.{gradeRefusal}
+use Rattle.masks.specs.Blade.{gradeRefusal}
 use Rattle.exports.proofs.blades.thresholm_grade_refusal.Statement.{statement}
 use Rattle.exports.proofs.blades.thresholm_grade_refusal.Tie as tie
 

@@ -3,7 +3,7 @@ use mathlib.Core.Path.{ap}
 use borrow.Author.Needs.{needs}
 use lib.ListN.{length}
 use Rattle.masks.specs.declared.shape.Shape.{Shape}
-use Rattle.masks.specs.Shapes.{setBlade}
+use Rattle.masks.specs.Blade.{setBlade}
 use Rattle.exports.proofs.ToldLaws.{value-told}
 use Rattle.exports.proofs.blades.thresholm_set_blade.Statement.{statement}
 use Rattle.exports.proofs.blades.thresholm_set_blade.Tie as tie

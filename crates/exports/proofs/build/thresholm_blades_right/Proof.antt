@@ -3,7 +3,7 @@ use mathlib.Core.Path.{ap}
 use borrow.Author.Needs.{needs}
 use lib.ListN.{length}
 use Rattle.masks.specs.declared.flavor.Flavor.{Flavor}
-use Rattle.masks.specs.Build.{bladesOf}
+use Rattle.masks.specs.Build.{bladesOfSide}
 use Rattle.exports.proofs.ToldLaws.{value-told}
 use Rattle.exports.proofs.build.thresholm_blades_right.Statement.{statement}
 use Rattle.exports.proofs.build.thresholm_blades_right.Tie as tie
@@ -23,7 +23,7 @@ same-length c = search needs
 returns : tie.Need-returns
 returns c =
     let given = c .before .before .before .before .before .before .before .before .before .before .before .before .before .args in
-    value-told (ap (λ (f : Flavor). bladesOf 1 (given .dims) (given .v .now) f (length (given .out .now))) (c .before .before .before .before .before .before .before .before .before .before .flavor-from .ensures)) (c .before .before .before .before .before .before .before .before .blades-right .ensures) (c .tell .ensures)
+    value-told (ap (λ (f : Flavor). bladesOfSide 1 (given .dims) (given .v .now) f (length (given .out .now))) (c .before .before .before .before .before .before .before .before .before .before .flavor-from .ensures)) (c .before .before .before .before .before .before .before .before .blades-right .ensures) (c .tell .ensures)
 
 pub thresholm-blades-right-spec : {M : Type 1} → statement M
 thresholm-blades-right-spec =

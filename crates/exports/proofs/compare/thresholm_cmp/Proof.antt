@@ -2,7 +2,7 @@
 use mathlib.Core.Path.{ap₂, _∙_}
 use borrow.Author.Needs.{needs}
 use Rattle.masks.specs.declared.shape.Shape.{Shape}
-use Rattle.arithmetic.specs.Comparison.{compared}
+use Rattle.arithmetic.specs.Compare.{compared}
 use Rattle.exports.specs.Told.{TellsOrder}
 use Rattle.exports.proofs.ToldLaws.{same-told}
 use Rattle.exports.proofs.compare.thresholm_cmp.Statement.{statement}

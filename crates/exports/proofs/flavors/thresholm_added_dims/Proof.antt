@@ -2,7 +2,7 @@
 use mathlib.Core.Path.{ap, _∙_}
 use borrow.Author.Needs.{needs}
 use Rattle.masks.specs.declared.flavor.Flavor.{Flavor}
-use Rattle.masks.specs.Flavors.{addedDims}
+use Rattle.masks.specs.Flavor.{addedDims}
 use Rattle.exports.proofs.flavors.thresholm_added_dims.Statement.{statement}
 use Rattle.exports.proofs.flavors.thresholm_added_dims.Tie as tie
 

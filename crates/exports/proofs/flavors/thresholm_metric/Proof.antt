@@ -7,7 +7,7 @@ use borrow.Author.Needs.{needs}
 use Rattle.masks.specs.declared.flavor.Flavor.{Flavor}
 use Rattle.masks.specs.declared.flavor.Metric.{Metric}
 use Rattle.masks.specs.declared.flavor.Metric.the-variants.{Minus, Zero, Plus}
-use Rattle.masks.specs.Flavors.{metricOf, metricValue}
+use Rattle.masks.specs.Flavor.{metricOf, metricValue}
 use Rattle.exports.proofs.flavors.thresholm_metric.Statement.{statement}
 use Rattle.exports.proofs.flavors.thresholm_metric.Tie as tie
 

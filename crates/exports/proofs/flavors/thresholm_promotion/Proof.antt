@@ -2,7 +2,7 @@
 use mathlib.Core.Path.{ap₂, _∙_}
 use borrow.Author.Needs.{needs}
 use Rattle.masks.specs.declared.flavor.Flavor.{Flavor}
-use Rattle.masks.specs.Shapes.{promotes}
+use Rattle.masks.specs.Shape.{promotes}
 use Rattle.exports.proofs.flavors.thresholm_promotion.Statement.{statement}
 use Rattle.exports.proofs.flavors.thresholm_promotion.Tie as tie
 

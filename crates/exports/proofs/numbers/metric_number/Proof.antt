@@ -1,7 +1,7 @@
 -- `exports::numbers::metric_number` meets its contract. Assumes nothing.
 use mathlib.Core.Path.{refl}
 use borrow.Author.Needs.{needs}
-use Rattle.masks.specs.Flavors.{metricValue}
+use Rattle.masks.specs.Flavor.{metricValue}
 use Rattle.exports.proofs.numbers.metric_number.Statement.{statement}
 use Rattle.exports.proofs.numbers.metric_number.Tie as tie
 

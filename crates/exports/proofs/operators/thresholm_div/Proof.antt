@@ -3,7 +3,7 @@ use mathlib.Core.Path.{ap₂}
 use borrow.Author.Needs.{needs}
 use lib.ListN.{length}
 use Rattle.masks.specs.declared.shape.Shape.{Shape}
-use Rattle.arithmetic.specs.Inverse.{quotient}
+use Rattle.arithmetic.specs.Quotient.{quotient}
 use Rattle.exports.proofs.ToldLaws.{value-told}
 use Rattle.exports.proofs.operators.thresholm_div.Statement.{statement}
 use Rattle.exports.proofs.operators.thresholm_div.Tie as tie

@@ -3,7 +3,7 @@ use mathlib.Core.Path.{ap}
 use borrow.Author.Needs.{needs}
 use lib.ListN.{length}
 use Rattle.masks.specs.declared.shape.Shape.{Shape}
-use Rattle.arithmetic.specs.Kept.{divF64}
+use Rattle.arithmetic.specs.Scale.{divF64}
 use Rattle.exports.proofs.ToldLaws.{value-told}
 use Rattle.exports.proofs.operators.thresholm_div_f64.Statement.{statement}
 use Rattle.exports.proofs.operators.thresholm_div_f64.Tie as tie

@@ -3,7 +3,7 @@ use mathlib.Core.Path.{ap₂}
 use borrow.Author.Needs.{needs}
 use lib.ListN.{length}
 use Rattle.masks.specs.declared.shape.Shape.{Shape}
-use Rattle.arithmetic.specs.Operators.{multiply}
+use Rattle.arithmetic.specs.Operators.{multiplication}
 use Rattle.exports.proofs.ToldLaws.{value-told}
 use Rattle.exports.proofs.operators.thresholm_mul.Statement.{statement}
 use Rattle.exports.proofs.operators.thresholm_mul.Tie as tie
@@ -26,7 +26,7 @@ same-length c = search needs
 returns : tie.Need-returns
 returns c =
     let given = c .before .before .before .before .before .before .before .before .before .before .before .before .before .before .before .args in
-    value-told (ap₂ (λ (s : Shape) (t : Shape). multiply s t (given .a .now) (given .b .now) (length (given .out .now))) (c .before .before .before .before .before .before .before .before .before .before .before .shape-from .ensures) (c .before .before .before .before .before .before .before .before .before .before .shape-from2 .ensures)) (c .before .before .before .before .before .before .before .before .mul .ensures) (c .tell .ensures)
+    value-told (ap₂ (λ (s : Shape) (t : Shape). multiplication s t (given .a .now) (given .b .now) (length (given .out .now))) (c .before .before .before .before .before .before .before .before .before .before .before .shape-from .ensures) (c .before .before .before .before .before .before .before .before .before .before .shape-from2 .ensures)) (c .before .before .before .before .before .before .before .before .mul .ensures) (c .tell .ensures)
 
 pub thresholm-mul-spec : {M : Type 1} → statement M
 thresholm-mul-spec =

@@ -3,7 +3,7 @@ use mathlib.Core.Path.{ap₂}
 use borrow.Author.Needs.{needs}
 use lib.ListN.{length}
 use Rattle.masks.specs.declared.shape.Shape.{Shape}
-use Rattle.masks.specs.Shapes.{conform}
+use Rattle.masks.specs.Shape.{conform}
 use Rattle.exports.proofs.ToldLaws.{pair-told}
 use Rattle.exports.proofs.shapes.thresholm_conform.Statement.{statement}
 use Rattle.exports.proofs.shapes.thresholm_conform.Tie as tie

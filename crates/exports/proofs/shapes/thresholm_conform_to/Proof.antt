@@ -3,7 +3,7 @@ use mathlib.Core.Path.{ap₂}
 use borrow.Author.Needs.{needs}
 use lib.ListN.{length}
 use Rattle.masks.specs.declared.shape.Shape.{Shape}
-use Rattle.masks.specs.Shapes.{conformTo}
+use Rattle.masks.specs.Shape.{conformTo}
 use Rattle.exports.proofs.ToldLaws.{value-told}
 use Rattle.exports.proofs.shapes.thresholm_conform_to.Statement.{statement}
 use Rattle.exports.proofs.shapes.thresholm_conform_to.Tie as tie

@@ -3,7 +3,7 @@ use mathlib.Core.Path.{ap}
 use borrow.Author.Needs.{needs}
 use lib.ListN.{length}
 use Rattle.masks.specs.declared.shape.Shape.{Shape}
-use Rattle.masks.specs.Shapes.{setDims}
+use Rattle.masks.specs.Shape.{setDims}
 use Rattle.exports.proofs.ToldLaws.{value-told}
 use Rattle.exports.proofs.shapes.thresholm_set_dims.Statement.{statement}
 use Rattle.exports.proofs.shapes.thresholm_set_dims.Tie as tie

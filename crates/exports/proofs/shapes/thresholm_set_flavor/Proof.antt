@@ -4,7 +4,7 @@ use borrow.Author.Needs.{needs}
 use lib.ListN.{length}
 use Rattle.masks.specs.declared.shape.Shape.{Shape}
 use Rattle.masks.specs.declared.flavor.Flavor.{Flavor}
-use Rattle.masks.specs.Shapes.{setFlavor}
+use Rattle.masks.specs.Shape.{setFlavor}
 use Rattle.exports.proofs.ToldLaws.{value-told}
 use Rattle.exports.proofs.shapes.thresholm_set_flavor.Statement.{statement}
 use Rattle.exports.proofs.shapes.thresholm_set_flavor.Tie as tie

@@ -2,7 +2,7 @@
 use mathlib.Core.Path.{ap, _∙_}
 use borrow.Author.Needs.{needs}
 use Rattle.masks.specs.declared.shape.Shape.{Shape}
-use Rattle.masks.specs.Shapes.{withDims}
+use Rattle.masks.specs.Shape.{withDims}
 use Rattle.sheets.specs.Format.{shapeBytes}
 use Rattle.exports.proofs.shapes.thresholm_with_dims.Statement.{statement}
 use Rattle.exports.proofs.shapes.thresholm_with_dims.Tie as tie

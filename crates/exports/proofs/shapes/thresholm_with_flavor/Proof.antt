@@ -3,7 +3,7 @@ use mathlib.Core.Path.{ap, ap₂, _∙_}
 use borrow.Author.Needs.{needs}
 use Rattle.masks.specs.declared.shape.Shape.{Shape}
 use Rattle.masks.specs.declared.flavor.Flavor.{Flavor}
-use Rattle.masks.specs.Shapes.{withFlavor}
+use Rattle.masks.specs.Shape.{withFlavor}
 use Rattle.sheets.specs.Format.{shapeBytes}
 use Rattle.exports.proofs.shapes.thresholm_with_flavor.Statement.{statement}
 use Rattle.exports.proofs.shapes.thresholm_with_flavor.Tie as tie

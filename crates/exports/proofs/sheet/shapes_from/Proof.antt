@@ -11,7 +11,7 @@ use Rattle.masks.specs.Outcome.{shapeOf, laid}
 use Rattle.masks.proofs.ListLaws.{getD-map, front, front-step, front-all}
 use Rattle.sheets.specs.Bytes.{parts}
 use Rattle.sheets.specs.Shapes.{blankShapes}
-use Rattle.sheets.specs.Reading.{shapeFrom}
+use Rattle.sheets.specs.Read.{shapeFrom}
 use Rattle.sheets.proofs.BytesLaws.{parts-length, getD-parts}
 use Rattle.exports.specs.Parts.{saidShapes}
 use Rattle.exports.proofs.sheet.shapes_from.Statement.{statement}

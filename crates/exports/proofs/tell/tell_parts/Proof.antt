@@ -2,7 +2,7 @@
 use mathlib.Core.Path.{_≡_, refl, _∙_}
 use lib.Ieee.{binary64, ofBits}
 use borrow.Author.Needs.{needs}
-use Rattle.masks.specs.Shapes.{nought}
+use Rattle.masks.specs.Outcome.{nought}
 use Rattle.exports.specs.Numbers.{testNumber, realPart, imaginaryPart}
 use Rattle.exports.proofs.tell.tell_parts.Statement.{statement}
 use Rattle.exports.proofs.tell.tell_parts.Tie as tie

@@ -3,7 +3,7 @@ use mathlib.Core.Path.{ap}
 use borrow.Author.Needs.{needs}
 use lib.ListN.{length}
 use Rattle.masks.specs.declared.shape.Shape.{Shape}
-use Rattle.arithmetic.specs.Duals.{dual}
+use Rattle.arithmetic.specs.Dual.{dual}
 use Rattle.exports.proofs.ToldLaws.{value-told}
 use Rattle.exports.proofs.values.thresholm_dual.Statement.{statement}
 use Rattle.exports.proofs.values.thresholm_dual.Tie as tie

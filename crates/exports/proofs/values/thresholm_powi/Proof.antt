@@ -6,7 +6,7 @@ use lib.ListN.{length}
 use mir.Syntax.{w32}
 use mir.ValLaws.{toZ-ofZ}
 use Rattle.masks.specs.declared.shape.Shape.{Shape}
-use Rattle.arithmetic.specs.Powers.{power}
+use Rattle.arithmetic.specs.Power.{power}
 use Rattle.exports.proofs.ToldLaws.{value-told}
 use Rattle.exports.proofs.values.thresholm_powi.Statement.{statement}
 use Rattle.exports.proofs.values.thresholm_powi.Tie as tie

@@ -3,7 +3,7 @@ use mathlib.Core.Path.{ap₂}
 use borrow.Author.Needs.{needs}
 use lib.ListN.{length}
 use Rattle.masks.specs.declared.shape.Shape.{Shape}
-use Rattle.arithmetic.specs.Duals.{regressiveProduct}
+use Rattle.arithmetic.specs.Dual.{regressiveProduct}
 use Rattle.exports.proofs.ToldLaws.{value-told}
 use Rattle.exports.proofs.values.thresholm_regressive_product.Statement.{statement}
 use Rattle.exports.proofs.values.thresholm_regressive_product.Tie as tie

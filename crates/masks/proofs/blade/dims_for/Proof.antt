@@ -2,7 +2,7 @@
 use mathlib.Core.Path.{_≡_, refl, sym, _∙_}
 use Prim.Native.Nat.{_-_, _^_, _≤_, _<_}
 use native.Mathlib.Omega.{arith}
-use Rattle.masks.specs.Shapes.{bladeDims}
+use Rattle.masks.specs.Blade.{bladeDims}
 use Rattle.masks.proofs.ShapeLaws.{count-small}
 use Rattle.masks.proofs.BladeLaws.{below-nine, dims-here, dims-next}
 use Rattle.masks.proofs.blade.dims_for.Statement.{statement}

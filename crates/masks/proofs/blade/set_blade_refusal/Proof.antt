@@ -5,7 +5,7 @@ use native.Mathlib.Omega.{arith}
 use borrow.Author.Needs.{needs}
 use borrow.Author.Tests.{eq-eqb, ne-eqb, lt-ltb, le-ltb}
 use Rattle.masks.specs.Outcome.{refusal}
-use Rattle.masks.specs.Shapes.{bladeDims}
+use Rattle.masks.specs.Blade.{bladeDims}
 use Rattle.masks.proofs.ShapeLaws.{count-small}
 use Rattle.masks.proofs.BladeLaws.{dims-le}
 use Rattle.masks.proofs.blade.set_blade_refusal.Statement.{statement}

@@ -11,7 +11,7 @@ use denote.Enum.Declared.{tagOf}
 use Rattle.masks.specs.declared.build.Packing.{Packing}
 use Rattle.masks.specs.declared.build.Packing.the-variants.{Full, Half, Grade, Nothing}
 use Rattle.masks.specs.Outcome.{value, answerOf}
-use Rattle.masks.specs.Build.{bladesOf, packing, unpacked}
+use Rattle.masks.specs.Build.{bladesOfSide, packing, unpacked}
 use Rattle.masks.proofs.build.Packing.{the-type}
 use Rattle.masks.proofs.RefusalLaws.{gives-refused, gives-done}
 use Rattle.masks.proofs.BuildLaws.{Packs, packing-fits, grade-fits, pack-wide, pack-none, pack-short, pack-done}
@@ -22,7 +22,7 @@ refused-requires : tie.Need-refused-requires
 refused-requires c κs = search needs
 
 returns : tie.Need-returns
-unfolding bladesOf
+unfolding bladesOfSide
 returns c =
     let a = c .before .before .before .before .args in
     gives-refused _ 1 _ _ _ (sym (pack-wide (a .dims) (packing (a .odd) (a .dims) (length (a .v .now))) (length (a .out .now)) (omega arith))) (λ e. omega arith) (c .refused .ensures)
@@ -58,7 +58,7 @@ refused-requires-2 : tie.Need-refused-requires-2
 refused-requires-2 c κs = search needs
 
 returns-2 : tie.Need-returns-2
-unfolding bladesOf
+unfolding bladesOfSide
 returns-2 c =
     let t = c .before .before .before in
     let a = s t .args in
@@ -72,7 +72,7 @@ refused-requires-3 : tie.Need-refused-requires-3
 refused-requires-3 c κs = search needs
 
 returns-3 : tie.Need-returns-3
-unfolding bladesOf
+unfolding bladesOfSide
 returns-3 c =
     let t = c .before .before .before .before in
     let a = s t .args in
@@ -138,7 +138,7 @@ same-length : tie.Need-same-length
 same-length c = search needs
 
 returns-4 : tie.Need-returns-4
-unfolding bladesOf
+unfolding bladesOfSide
 returns-4 c =
     let e = c .before .before .before .before .before .before .before .before in
     let t = e .before .before .before in
@@ -151,7 +151,7 @@ same-length-2 : tie.Need-same-length-2
 same-length-2 c = search needs
 
 returns-5 : tie.Need-returns-5
-unfolding bladesOf
+unfolding bladesOfSide
 returns-5 c =
     let e = c .before .before .before .before .before .before .before .before in
     let t = e .before .before .before in
@@ -164,7 +164,7 @@ same-length-3 : tie.Need-same-length-3
 same-length-3 c = search needs
 
 returns-6 : tie.Need-returns-6
-unfolding bladesOf
+unfolding bladesOfSide
 returns-6 c =
     let e = c .before .before .before .before .before .before .before .before .before in
     let t = e .before .before .before in
@@ -175,7 +175,7 @@ returns-6 c =
     (c .done3 .ensures ∙ ap (λ x. answerOf (value x [])) (c .before .shape-of3 .ensures)) (c .before .before .before .before .fill-grade .ensures))
 
 returns-7 : tie.Need-returns-7
-unfolding bladesOf
+unfolding bladesOfSide
 returns-7 c =
     let t = c .before .before .before .before .before .before in
     let a = s t .args in

@@ -8,7 +8,7 @@ use lib.Count.{ones}
 use lib.Ieee.{Float, nan, ofBits, ofFields}
 use lib.ListN.{length, take, getD, set}
 use lib.Seq.{length-take-le, getD-take}
-use Rattle.masks.specs.Shapes.{nought}
+use Rattle.masks.specs.Outcome.{nought}
 use Rattle.masks.specs.Build.{spread}
 use Rattle.masks.proofs.ListLaws.{front, front-length, front-step, front-all}
 use Rattle.masks.proofs.BuildLaws.{Given, given-none, given-fits, given-number, given-more, given-nought, given-same, length-spread}

@@ -2,7 +2,7 @@
 use Prim.Native.Nat.{_+_}
 use native.Mathlib.Omega.{arith}
 use borrow.Author.Tests.{lt-ltb, le-ltb}
-use Rattle.masks.specs.Flavors.{metricOf, metricValue}
+use Rattle.masks.specs.Flavor.{metricOf, metricValue}
 use Rattle.masks.proofs.flavor.metric_cl.Statement.{statement}
 use Rattle.masks.proofs.flavor.metric_cl.Tie as tie
 

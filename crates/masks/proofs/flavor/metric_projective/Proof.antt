@@ -1,6 +1,6 @@
 -- `masks::flavor::metric_projective` meets its contract, by the test on the way. Assumes nothing.
 use borrow.Author.Tests.{eq-eqb, ne-eqb}
-use Rattle.masks.specs.Flavors.{metricOf, metricValue}
+use Rattle.masks.specs.Flavor.{metricOf, metricValue}
 use Rattle.masks.proofs.flavor.metric_projective.Statement.{statement}
 use Rattle.masks.proofs.flavor.metric_projective.Tie as tie
 

@@ -6,7 +6,7 @@ use native.Mathlib.Omega.{arith}
 use lib.Dec.{eqb}
 use lib.Ieee.{Float, nan}
 use lib.ListN.{length, getD, take, drop}
-use Rattle.masks.specs.Shapes.{moved, negatedIf}
+use Rattle.masks.specs.Shape.{moved, negatedIf}
 use Rattle.masks.proofs.ListLaws.{front, front-length, front-step, front-all}
 use Rattle.masks.proofs.ShapeLaws.{part-length, part-at}
 use Rattle.masks.proofs.gather.gather.Statement.{statement}

@@ -1,6 +1,6 @@
 -- `masks::shape::promotion` meets its contract, by the cases of both flavors. Assumes nothing.
 use borrow.Author.Needs.{needs}
-use Rattle.masks.specs.Shapes.{promotes}
+use Rattle.masks.specs.Shape.{promotes}
 use Rattle.masks.proofs.shape.promotion.Statement.{statement}
 use Rattle.masks.proofs.shape.promotion.Tie as tie
 

@@ -4,13 +4,13 @@ use Prim.Native.Nat.{_-_}
 use native.Mathlib.Omega.{arith}
 use lib.ListN.{length}
 use borrow.Author.Tests.{not-true, not-false}
-use Rattle.masks.specs.Text.{passes}
+use Rattle.masks.specs.Text.{passesTest}
 use Rattle.masks.proofs.ScanLaws.{Scanned, scan-on, scan-stop, scan-end}
 use Rattle.masks.proofs.text.skip.Statement.{statement}
 use Rattle.masks.proofs.text.skip.Tie as tie
 
 abbrev Inv-loop : tie.InvT-loop
-Inv-loop test t at i₀ i = Scanned (passes test) t at i
+Inv-loop test t at i₀ i = Scanned (passesTest test) t at i
 
 abbrev μ-loop : tie.MeasureT-loop
 μ-loop test t at i₀ i = length t - i
@@ -28,7 +28,7 @@ returns : tie.Need-returns Inv-loop μ-loop
 returns c =
     let l = c .before .before .before .before in
     let a = l .before .before .args in
-    scan-stop (passes (a .test)) (a .t .now) (a .at) (l .loop .i) (l .loop .inv) (omega arith)
+    scan-stop (passesTest (a .test)) (a .t .now) (a .at) (l .loop .i) (l .loop .inv) (omega arith)
     (sym (c .before .byte-passes .ensures) ∙ not-true _ (c .if1 .taken))
 
 add-i : tie.Need-add-i Inv-loop μ-loop
@@ -41,14 +41,14 @@ loop-again : tie.Need-loop-again Inv-loop μ-loop
 loop-again c =
     let l = c .before .before .before .before in
     let a = l .before .before .args in
-    scan-on (passes (a .test)) (a .t .now) (a .at) (l .loop .i) (l .loop .inv) (omega arith)
+    scan-on (passesTest (a .test)) (a .t .now) (a .at) (l .loop .i) (l .loop .inv) (omega arith)
     (sym (c .before .byte-passes .ensures) ∙ not-false _ (c .if1 .left))
 
 returns-2 : tie.Need-returns-2 Inv-loop μ-loop
 returns-2 c =
     let l = c .before in
     let a = l .before .before .args in
-    scan-end (passes (a .test)) (a .t .now) (a .at) (l .loop .i) (l .loop .inv) (omega arith)
+    scan-end (passesTest (a .test)) (a .t .now) (a .at) (l .loop .i) (l .loop .inv) (omega arith)
 
 pub skip-spec : {M : Type 1} → statement M
 skip-spec =

@@ -8,7 +8,7 @@ use lib.Pow.{pow-pos}
 use lib.Seq.{set-split}
 use Rattle.masks.specs.Order.{masksOf, placesOf}
 use Rattle.masks.specs.Outcome.{laid}
-use Rattle.masks.specs.Shapes.{coef}
+use Rattle.masks.specs.Shape.{coef}
 use Rattle.masks.proofs.ShapeLaws.{holds-masks, holds-places}
 use Rattle.masks.proofs.UnpackLaws.{lone-mask, half-masks}
 use Rattle.masks.proofs.unpack.half.Statement.{statement}

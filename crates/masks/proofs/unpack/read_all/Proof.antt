@@ -8,7 +8,7 @@ use lib.Dec.{lit≤}
 use lib.ListN.{length}
 use Rattle.masks.specs.Order.{order}
 use Rattle.masks.specs.Outcome.{laid}
-use Rattle.masks.specs.Shapes.{coef}
+use Rattle.masks.specs.Shape.{coef}
 use Rattle.masks.proofs.OrderLaws.{blades-le}
 use Rattle.masks.proofs.ShapeLaws.{holds-masks, holds-places}
 use Rattle.masks.proofs.UnpackLaws.{all-read, all-back}

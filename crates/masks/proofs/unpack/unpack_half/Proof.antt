@@ -4,7 +4,7 @@ use Prim.Native.Nat.{_-_, _^_, _≤_}
 use borrow.Author.Needs.{needs}
 use borrow.Author.Tests.{le-ltb}
 use lib.ListN.{length}
-use Rattle.masks.specs.Shapes.{coef}
+use Rattle.masks.specs.Shape.{coef}
 use Rattle.masks.specs.Unpack.{halfOf, halfMasks, unpackRefusal}
 use Rattle.masks.proofs.RefusalLaws.{Taken, taken, needed-same, writes-refused, writes-done}
 use Rattle.masks.proofs.UnpackLaws.{length-half, counts}

@@ -5,7 +5,7 @@ use lib.Dec.{T, eqb, eqb→eq}
 use lib.Bits.{bitAnd, bitXor}
 use Rattle.clifford.specs.Blade.{has, count}
 use Rattle.masks.proofs.Computed.{upto, upto-at}
-use Rattle.product.specs.ByOnes.{maskOf, below}
+use Rattle.product.specs.inner.ByOnes.{maskOf, oddBelow}
 use Rattle.product.proofs.metric.below_bits.Statement.{statement}
 use Rattle.product.proofs.metric.below_bits.Tie as tie
 
@@ -17,15 +17,15 @@ code : ℕ → ℕ
 code b = bitAnd (fold (fold (fold (b * 2 % 4294967296) 2) 4) 16) 511
 
 same : ℕ → Bool
-same b = eqb (code b) (below b)
+same b = eqb (code b) (oddBelow b)
 
 all-same : T (upto same 512)
-unfolding fold code same below maskOf count has
+unfolding fold code same oddBelow maskOf count has
 all-same = tt
 
 returns : tie.Need-returns
 unfolding fold code same
-returns c = eqb→eq (code (c .args .b)) (below (c .args .b)) (upto-at same 512 (c .args .b) all-same (c .pre))
+returns c = eqb→eq (code (c .args .b)) (oddBelow (c .args .b)) (upto-at same 512 (c .args .b) all-same (c .pre))
 
 pub below-bits-spec : {M : Type 1} → statement M
 below-bits-spec = tie.close (tie.spec returns)

@@ -9,9 +9,9 @@ use borrow.Author.Tests.{not-true, not-false}
 use Rattle.clifford.specs.Sign.{sign}
 use Rattle.clifford.proofs.SignLaws.{sign-even, sign-odd}
 use Rattle.masks.specs.declared.flavor.Flavor.{Flavor}
-use Rattle.masks.specs.Flavors.{metricValue}
-use Rattle.product.specs.Modes.{flavorFor, pairMetric}
-use Rattle.product.specs.ByOnes.{squaresBelow, bladeOf}
+use Rattle.masks.specs.Flavor.{metricValue}
+use Rattle.product.specs.Mode.{flavorFor, pairMetric}
+use Rattle.product.specs.inner.ByOnes.{squaresBelow, bladeOf}
 use Rattle.product.proofs.ByOnesLaws.{pair-untaken, pair-null, pair-sign}
 use Rattle.product.proofs.metric.pair_metric.Statement.{statement}
 use Rattle.product.proofs.metric.pair_metric.Tie as tie

@@ -1,8 +1,8 @@
 -- `product::metric::with_square` meets its contract, variant by variant. Assumes nothing.
 use native.Mathlib.Nat.{add-zero}
 use borrow.Author.Needs.{needs}
-use Rattle.masks.specs.Flavors.{metricValue}
-use Rattle.product.specs.ByOnes.{withSquare}
+use Rattle.masks.specs.Flavor.{metricValue}
+use Rattle.product.specs.inner.ByOnes.{withSquare}
 use Rattle.product.proofs.metric.with_square.Statement.{statement}
 use Rattle.product.proofs.metric.with_square.Tie as tie
 

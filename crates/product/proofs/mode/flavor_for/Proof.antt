@@ -1,7 +1,7 @@
 -- `product::mode::flavor_for` meets its contract, variant by variant. Assumes nothing.
 use mathlib.Core.Path.{_∙_}
 use borrow.Author.Needs.{needs}
-use Rattle.product.specs.Modes.{flavorFor}
+use Rattle.product.specs.Mode.{flavorFor}
 use Rattle.product.proofs.mode.flavor_for.Statement.{statement}
 use Rattle.product.proofs.mode.flavor_for.Tie as tie
 

@@ -3,7 +3,7 @@ use lib.Bits.{and-comm}
 use borrow.Author.Needs.{needs}
 use borrow.Author.Tests.{eq-eqb, ne-eqb}
 use Rattle.clifford.specs.Pairs.{within}
-use Rattle.product.specs.Modes.{takes}
+use Rattle.product.specs.Mode.{takes}
 use Rattle.product.proofs.mode.takes_pair.Statement.{statement}
 use Rattle.product.proofs.mode.takes_pair.Tie as tie
 

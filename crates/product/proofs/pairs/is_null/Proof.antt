@@ -1,6 +1,6 @@
 -- `product::pairs::is_null` meets its contract, variant by variant. Assumes nothing.
 use borrow.Author.Needs.{needs}
-use Rattle.masks.specs.Flavors.{metricValue}
+use Rattle.masks.specs.Flavor.{metricValue}
 use Rattle.product.proofs.pairs.is_null.Statement.{statement}
 use Rattle.product.proofs.pairs.is_null.Tie as tie
 

@@ -5,9 +5,9 @@ use native.Mathlib.Omega.{arith}
 use borrow.Author.Needs.{needs}
 use Rattle.clifford.specs.Pairs.{nulls}
 use Rattle.masks.specs.declared.flavor.Flavor.{Flavor}
-use Rattle.masks.specs.Flavors.{nullFlavor}
+use Rattle.masks.specs.Flavor.{nullFlavor}
 use Rattle.product.specs.declared.mode.Mode.the-variants.{All, Outer}
-use Rattle.product.specs.Modes.{takes, squares, flavorFor}
+use Rattle.product.specs.Mode.{takes, squares, flavorFor}
 use Rattle.product.specs.Pairwise.{pairsOf}
 use Rattle.product.proofs.CountingLaws.{pairs-all, pairs-left, pairs-right, pairs-inner}
 use Rattle.product.proofs.PowerLaws.{nulls-le}

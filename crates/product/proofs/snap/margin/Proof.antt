@@ -6,7 +6,7 @@ use mathlib.Core.Bool.{Bool, _&&_}
 use lib.Dec.{T, ltb, leb, ltb→lt, leb→le}
 use borrow.Author.Needs.{needs}
 use Rattle.rounding.specs.Snap.{tinyNum, tinyExp}
-use Rattle.rounding.specs.SnapBits.{Margin}
+use Rattle.rounding.specs.inner.SnapBits.{Margin}
 use Rattle.masks.proofs.Computed.{upto, upto-at, both}
 use Rattle.product.proofs.snap.margin.Statement.{statement}
 use Rattle.product.proofs.snap.margin.Tie as tie

@@ -11,7 +11,7 @@ use lib.Ieee.Bits.{ofBits-toBits}
 use lib.Ieee.Compare.{differs-from-itself}
 use borrow.Author.Needs.{needs}
 use Rattle.rounding.specs.Snap.{snap}
-use Rattle.rounding.specs.SnapBits.{field}
+use Rattle.rounding.specs.inner.SnapBits.{field}
 use Rattle.rounding.proofs.SnapBitsLaws.{snap-below, snap-between, snap-above}
 use Rattle.product.proofs.snap.snap_one.Statement.{statement}
 use Rattle.product.proofs.snap.snap_one.Tie as tie

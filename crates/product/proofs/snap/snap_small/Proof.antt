@@ -4,7 +4,7 @@ use mathlib.Core.Bool.{Bool, true, false, cond}
 use lib.IntN.{negsuc}
 use lib.Ieee.{Float, fin, binary64, ofBits, neg, lt, round}
 use Rattle.rounding.specs.Snap.{tinyNum}
-use Rattle.rounding.specs.SnapBits.{tinyFloat}
+use Rattle.rounding.specs.inner.SnapBits.{tinyFloat}
 use Rattle.product.proofs.snap.snap_small.Statement.{statement}
 use Rattle.product.proofs.snap.snap_small.Tie as tie
 

@@ -10,9 +10,9 @@ use lib.IntN.{ℤ}
 use lib.ListN.{getD}
 use Rattle.masks.specs.Order.{place}
 use Rattle.masks.proofs.OrderLaws.{blades-le, place-lt, mask-read, place-read, order-at}
-use Rattle.product.specs.Modes.{pairMetric}
+use Rattle.product.specs.Mode.{pairMetric}
 use Rattle.product.specs.Pairwise.{maskAt}
-use Rattle.product.specs.Gathered.{termOf, withTerm}
+use Rattle.product.specs.inner.Gathered.{termOf, withTerm}
 use Rattle.product.proofs.sums.add_at.Statement.{statement}
 use Rattle.product.proofs.sums.add_at.Tie as tie
 

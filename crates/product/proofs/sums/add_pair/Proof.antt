@@ -1,7 +1,7 @@
 -- `product::sums::add_pair` meets its contract: 1.0 and -1.0 are the metric as a number. Assumes nothing.
 use borrow.Author.Needs.{needs}
 use lib.Ieee.{ofBits, ofFields, neg}
-use Rattle.masks.specs.Flavors.{metricValue}
+use Rattle.masks.specs.Flavor.{metricValue}
 use Rattle.product.proofs.sums.add_pair.Statement.{statement}
 use Rattle.product.proofs.sums.add_pair.Tie as tie
 

@@ -6,9 +6,9 @@ use lib.Ieee.{Float, nan, binary64}
 use lib.ListN.{length, getD, length-set}
 use Rattle.masks.specs.declared.flavor.Flavor.{Flavor}
 use Rattle.masks.proofs.ListLaws.{front, front-step, front-all}
-use Rattle.product.specs.Modes.{flavorFor}
-use Rattle.product.specs.Gathered.{withTerm, pairFor, withRow}
-use Rattle.product.specs.ByOnes.{squaresBelow, bladeOf}
+use Rattle.product.specs.Mode.{flavorFor}
+use Rattle.product.specs.inner.Gathered.{withTerm, pairFor, withRow}
+use Rattle.product.specs.inner.ByOnes.{squaresBelow, bladeOf}
 use Rattle.product.proofs.PlacesLaws.{front-next}
 use Rattle.product.proofs.SumsLaws.{row-length, row-at}
 use Rattle.product.proofs.sums.add_row.Statement.{statement}

@@ -5,7 +5,7 @@ use Prim.Native.Nat.{_-_, _≤_}
 use native.Mathlib.Omega.{arith}
 use lib.Ieee.{Float, nan, ofBits, ofFields}
 use lib.ListN.{length, replicate, length-replicate}
-use Rattle.masks.specs.Shapes.{nought}
+use Rattle.masks.specs.Outcome.{nought}
 use Rattle.masks.proofs.ListLaws.{front, front-length, front-step, front-all}
 use Rattle.product.proofs.SumsLaws.{replicate-at}
 use Rattle.product.proofs.sums.clear.Statement.{statement}

@@ -7,10 +7,10 @@ use lib.ListN.{length, getD}
 use Rattle.masks.specs.declared.flavor.Flavor.{Flavor}
 use Rattle.masks.specs.Outcome.{laid}
 use Rattle.masks.proofs.OrderLaws.{blades-le, mask-read, order-at}
-use Rattle.product.specs.Modes.{flavorFor}
+use Rattle.product.specs.Mode.{flavorFor}
 use Rattle.product.specs.Pairwise.{maskAt}
-use Rattle.product.specs.Gathered.{sumsBelow}
-use Rattle.product.specs.ByOnes.{squaresBelow}
+use Rattle.product.specs.inner.Gathered.{sumsBelow}
+use Rattle.product.specs.inner.ByOnes.{squaresBelow}
 use Rattle.product.proofs.SumsLaws.{blade-mask, blade-kept, sums-start, sums-over, sums-next}
 use Rattle.product.proofs.sums.sum_pairs.Statement.{statement}
 use Rattle.product.proofs.sums.sum_pairs.Tie as tie

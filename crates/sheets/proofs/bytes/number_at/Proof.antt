@@ -5,36 +5,36 @@ use Prim.Native.Nat.{ℕ, suc, _+_, _-_, _*_, _^_, _≤_, _<_}
 use native.Mathlib.Nat.{add-zero, sub-zero, sub-self, pow-le-pow-right}
 use native.Mathlib.Omega.{arith}
 use lib.ListN.{length, getD, take, drop, length-take}
-use Rattle.sheets.specs.Bytes.{number}
+use Rattle.sheets.specs.Bytes.{fromLittleEndian}
 use Rattle.sheets.proofs.BytesLaws.{AreBytes, number-lt, take-bytes, drop-bytes, number-down}
 use Rattle.sheets.proofs.bytes.number_at.Statement.{statement}
 use Rattle.sheets.proofs.bytes.number_at.Tie as tie
 
 -- seven bytes leave room for one more
-number-small : (b : List ℕ) (n at : ℕ) → AreBytes b → n ≤ 7 → number (take n (drop at b)) < 256 ^ 7
+number-small : (b : List ℕ) (n at : ℕ) → AreBytes b → n ≤ 7 → fromLittleEndian (take n (drop at b)) < 256 ^ 7
 number-small b n at h l =
     let part = take n (drop at b) in
     let short : length part ≤ 7 = omega (arith, length-take n (drop at b)) in
     omega (arith, number-lt part (take-bytes n (drop at b) (drop-bytes at b h)), pow-le-pow-right {n = 256} (omega arith) {i = length part} {j = 7} short)
 
 -- the byte below those that are read
-number-next : (b : List ℕ) (at count i x y : ℕ) → 0 < i → i ≤ count → at + count ≤ length b → x ≡ number (take (count - i) (drop (at + i) b)) → y ≡ getD b (at + (i - 1)) 0 → x * 256 + y ≡ number (take (count - (i - 1)) (drop (at + (i - 1)) b))
+number-next : (b : List ℕ) (at count i x y : ℕ) → 0 < i → i ≤ count → at + count ≤ length b → x ≡ fromLittleEndian (take (count - i) (drop (at + i) b)) → y ≡ getD b (at + (i - 1)) 0 → x * 256 + y ≡ fromLittleEndian (take (count - (i - 1)) (drop (at + (i - 1)) b))
 number-next b at count i x y h l g e q =
     let fewer : count - (i - 1) ≡ suc (count - i) = omega arith in
     let next : suc (at + (i - 1)) ≡ at + i = omega arith in
-    let down = number-down b (at + (i - 1)) (count - i) (omega arith) ∙ ap (λ (k : ℕ). getD b (at + (i - 1)) 0 + 256 * number (take (count - i) (drop k b))) next in
-    omega (arith, e, q, down) ∙ ap (λ (k : ℕ). number (take k (drop (at + (i - 1)) b))) (sym fewer)
+    let down = number-down b (at + (i - 1)) (count - i) (omega arith) ∙ ap (λ (k : ℕ). getD b (at + (i - 1)) 0 + 256 * fromLittleEndian (take (count - i) (drop k b))) next in
+    omega (arith, e, q, down) ∙ ap (λ (k : ℕ). fromLittleEndian (take k (drop (at + (i - 1)) b))) (sym fewer)
 
 -- none are read at first, all at last
-number-none : (b : List ℕ) (at n : ℕ) → 0 ≡ number (take (n - n) (drop (at + n) b))
-unfolding number
+number-none : (b : List ℕ) (at n : ℕ) → 0 ≡ fromLittleEndian (take (n - n) (drop (at + n) b))
+unfolding fromLittleEndian
 number-none b at n = rw (sub-self n)
 
-number-all : (b : List ℕ) (at n i : ℕ) → i ≡ 0 → number (take (n - i) (drop (at + i) b)) ≡ number (take n (drop at b))
+number-all : (b : List ℕ) (at n i : ℕ) → i ≡ 0 → fromLittleEndian (take (n - i) (drop (at + i) b)) ≡ fromLittleEndian (take n (drop at b))
 number-all b at n i e = rw (e, sub-zero n, add-zero at)
 
 abbrev Inv-loop : tie.InvT-loop
-Inv-loop bytes at count x₀ i₀ x i = (i ≤ count) × (x ≡ number (take (count - i) (drop (at + i) bytes)))
+Inv-loop bytes at count x₀ i₀ x i = (i ≤ count) × (x ≡ fromLittleEndian (take (count - i) (drop (at + i) bytes)))
 
 abbrev μ-loop : tie.MeasureT-loop
 μ-loop bytes at count x₀ i₀ x i = i

@@ -10,7 +10,7 @@ use lib.ListN.{getD, take, drop}
 use lib.Seq.{drop-drop}
 use Rattle.masks.proofs.ListLaws.{split}
 use Rattle.sheets.specs.Bytes.{parts}
-use Rattle.sheets.specs.Checks.{isShape, areShapes}
+use Rattle.sheets.specs.inner.Checks.{isShape, areShapes}
 use Rattle.sheets.proofs.BytesLaws.{parts-length, getD-parts}
 use Rattle.sheets.proofs.ReadingLaws.{shapes-all, shapes-fail}
 use Rattle.sheets.proofs.read.are_shapes.Statement.{statement}

@@ -11,11 +11,11 @@ use Rattle.masks.specs.declared.shape.Shape.{Shape}
 use Rattle.masks.proofs.ListLaws.{take-laid}
 use Rattle.sheets.specs.declared.shapes.Shapes.{Shapes}
 use Rattle.sheets.specs.declared.read.SheetRead.{SheetRead}
-use Rattle.sheets.specs.Bytes.{number, parts, itemsIn}
-use Rattle.sheets.specs.Format.{bladesOf, anyAboveNine}
+use Rattle.sheets.specs.Bytes.{fromLittleEndian, parts, itemsIn}
+use Rattle.sheets.specs.Format.{bladeTotal, anyAboveNine}
 use Rattle.sheets.specs.Shapes.{shapesOf, blankShapes}
-use Rattle.sheets.specs.Reading.{shapeFrom, said, refusedSheet, aSheet, readOf}
-use Rattle.sheets.specs.Checks.{areShapes, checked}
+use Rattle.sheets.specs.Read.{shapeFrom, said, refusedSheet, aSheet, readOf}
+use Rattle.sheets.specs.inner.Checks.{areShapes, checked}
 use Rattle.sheets.proofs.ReadingLaws.{shapesSaid, patternsSaid, shapes-count, patterns-count, WellFormed, shapes-small, checked-refused, checked-done}
 use Rattle.sheets.proofs.read.check.Statement.{statement}
 use Rattle.sheets.proofs.read.check.Tie as tie
@@ -70,13 +70,13 @@ listed a =
     ∙ take-laid (after-number a .number-at .result) (shapes b) blankShapes (shapes-count b ∙ sym (counted (after-number a)))
 
 -- how many coefficients they have, and how many are said
-summed : (a : tie.After-blades-of) → a .blades-of .result ≡ bladesOf (shapes (bytes (after-number (a .before))))
-summed a = a .blades-of .ensures ∙ ap bladesOf (listed (a .before))
+summed : (a : tie.After-blades-of) → a .blades-of .result ≡ bladeTotal (shapes (bytes (after-number (a .before))))
+summed a = a .blades-of .ensures ∙ ap bladeTotal (listed (a .before))
 
 said-count : (a : tie.After-number-at2) → a .number-at2 .result ≡ patternsSaid (bytes (after-number (a .before .before)))
 said-count a =
     let n = after-number (a .before .before) in
-    a .number-at2 .ensures ∙ ap (λ (m : ℕ). number (take 4 (drop (2 + 5 * m) (bytes n)))) (counted n)
+    a .number-at2 .ensures ∙ ap (λ (m : ℕ). fromLittleEndian (take 4 (drop (2 + 5 * m) (bytes n)))) (counted n)
 
 refused-sheet-requires : tie.Need-refused-sheet-requires
 refused-sheet-requires c κs = search needs

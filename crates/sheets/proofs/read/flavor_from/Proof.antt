@@ -3,7 +3,7 @@ use mathlib.Core.Path.{_≡_, refl}
 use Prim.Native.Nat.{ℕ, zero, suc}
 use borrow.Author.Needs.{needs}
 use Rattle.masks.specs.declared.flavor.Flavor.the-variants.{Cl}
-use Rattle.sheets.specs.Reading.{flavorFrom}
+use Rattle.sheets.specs.Read.{flavorFrom}
 use Rattle.sheets.proofs.read.flavor_from.Statement.{statement}
 use Rattle.sheets.proofs.read.flavor_from.Tie as tie
 

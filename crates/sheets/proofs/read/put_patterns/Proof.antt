@@ -5,25 +5,25 @@ use Prim.Native.Nat.{ℕ, _+_, _-_, _*_, _≤_, _<_}
 use native.Mathlib.Omega.{arith}
 use lib.ListN.{length, set, take, drop, length-map}
 use Rattle.masks.proofs.ListLaws.{front, front-length, front-step, front-all}
-use Rattle.sheets.specs.Bytes.{number, parts}
+use Rattle.sheets.specs.Bytes.{fromLittleEndian, parts}
 use Rattle.sheets.proofs.BytesLaws.{parts-length, getD-map-parts}
 use Rattle.sheets.proofs.read.put_patterns.Statement.{statement}
 use Rattle.sheets.proofs.read.put_patterns.Tie as tie
 
 -- the n patterns
 abbrev said : List ℕ → ℕ → ℕ → List ℕ
-said b at n = map number (parts 8 n (drop at b))
+said b at n = map fromLittleEndian (parts 8 n (drop at b))
 
 said-length : (b : List ℕ) (at n : ℕ) → length (said b at n) ≡ n
-said-length b at n = length-map (parts 8 n (drop at b)) number ∙ parts-length 8 n (drop at b)
+said-length b at n = length-map (parts 8 n (drop at b)) fromLittleEndian ∙ parts-length 8 n (drop at b)
 
 written-length : (b : List ℕ) (at n i : ℕ) (out now : List ℕ) → n ≤ length out → i ≤ n → now ≡ front i (said b at n) out → length now ≡ length out
 written-length b at n i out now g h e = ap length e ∙ front-length i (said b at n) out (omega (arith, said-length b at n)) (omega arith)
 
 -- pattern i written at i, one more is written
-one-more : (b : List ℕ) (at n i : ℕ) (out now : List ℕ) (x : ℕ) → n ≤ length out → i < n → now ≡ front i (said b at n) out → x ≡ number (take 8 (drop (at + 8 * i) b)) → set now i x ≡ front (i + 1) (said b at n) out
+one-more : (b : List ℕ) (at n i : ℕ) (out now : List ℕ) (x : ℕ) → n ≤ length out → i < n → now ≡ front i (said b at n) out → x ≡ fromLittleEndian (take 8 (drop (at + 8 * i) b)) → set now i x ≡ front (i + 1) (said b at n) out
 one-more b at n i out now x g h e q =
-    rw e (front-step i (said b at n) 0 out x (q ∙ sym (getD-map-parts number 0 8 n at b i h)) (omega (arith, said-length b at n)) (omega arith))
+    rw e (front-step i (said b at n) 0 out x (q ∙ sym (getD-map-parts fromLittleEndian 0 8 n at b i h)) (omega (arith, said-length b at n)) (omega arith))
 
 abbrev Inv-loop : tie.InvT-loop
 Inv-loop bytes at n out₀ i₀ out i = (i ≤ n) × (out ≡ front i (said bytes at n) out₀)

@@ -8,20 +8,20 @@ use lib.ListN.{length, drop}
 use lib.Seq.{drop-drop}
 use Rattle.masks.specs.Outcome.{laid}
 use Rattle.sheets.specs.declared.read.SheetRead.{SheetRead}
-use Rattle.sheets.specs.Bytes.{number, parts}
-use Rattle.sheets.specs.Reading.{said, refusedSheet, aSheet, readSheet, readOf, Reads}
-use Rattle.sheets.specs.Checks.{checked}
+use Rattle.sheets.specs.Bytes.{fromLittleEndian, parts}
+use Rattle.sheets.specs.Read.{said, refusedSheet, aSheet, readSheet, readOf, Reads}
+use Rattle.sheets.specs.inner.Checks.{checked}
 use Rattle.sheets.proofs.ReadingLaws.{shapesSaid, patternsSaid, patterns-count, WellFormed, checked-done, checked-cases, checked-well, read-malformed, read-no-room, read-done}
 use Rattle.sheets.proofs.read.read.Statement.{statement}
 use Rattle.sheets.proofs.read.read.Tie as tie
 
 -- the patterns that well-formed bytes say are their last
-last-bytes : (b : List ℕ) (n : ℕ) → WellFormed b → n ≡ patternsSaid b → map number (parts 8 n (drop (length b - 8 * n) b)) ≡ said b .patterns
+last-bytes : (b : List ℕ) (n : ℕ) → WellFormed b → n ≡ patternsSaid b → map fromLittleEndian (parts 8 n (drop (length b - 8 * n) b)) ≡ said b .patterns
 unfolding said
 last-bytes b n w e =
     let at : length b - 8 * n ≡ 2 + 5 * shapesSaid b + 4 = omega (arith, w .whole) in
-    ap₂ (λ (m k : ℕ). map number (parts 8 k (drop m b))) at e
-    ∙ ap (λ (r : List ℕ). map number (parts 8 (patternsSaid b) r)) (sym (drop-drop 4 (2 + 5 * shapesSaid b) b))
+    ap₂ (λ (m k : ℕ). map fromLittleEndian (parts 8 k (drop m b))) at e
+    ∙ ap (λ (r : List ℕ). map fromLittleEndian (parts 8 (patternsSaid b) r)) (sym (drop-drop 4 (2 + 5 * shapesSaid b) b))
 
 -- a refusal leaves the output
 reads-refused : (b out : List ℕ) (k : ℕ) (r : SheetRead) → readSheet b (length out) ≡ refusedSheet k → r ≡ readOf (refusedSheet k) → Reads (readSheet b (length out)) r out out

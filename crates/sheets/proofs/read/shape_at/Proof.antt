@@ -8,7 +8,7 @@ use borrow.Author.Needs.{needs}
 use lib.ListN.{getD, take, drop}
 use lib.Seq.{getD-take, getD-drop}
 use Rattle.masks.specs.Outcome.{shapeOf}
-use Rattle.sheets.specs.Reading.{flavorFrom, shapeFrom}
+use Rattle.sheets.specs.Read.{flavorFrom, shapeFrom}
 use Rattle.sheets.proofs.read.shape_at.Statement.{statement}
 use Rattle.sheets.proofs.read.shape_at.Tie as tie
 

@@ -10,7 +10,7 @@ use Rattle.masks.specs.Outcome.{shapeOf}
 use Rattle.masks.proofs.ListLaws.{front, front-step, front-all}
 use Rattle.sheets.specs.Bytes.{parts}
 use Rattle.sheets.specs.Shapes.{blankShapes}
-use Rattle.sheets.specs.Reading.{shapeFrom}
+use Rattle.sheets.specs.Read.{shapeFrom}
 use Rattle.sheets.proofs.BytesLaws.{parts-length, getD-map-parts}
 use Rattle.sheets.proofs.read.shapes_from.Statement.{statement}
 use Rattle.sheets.proofs.read.shapes_from.Tie as tie

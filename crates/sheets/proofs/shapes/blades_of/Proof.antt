@@ -12,7 +12,7 @@ use Rattle.masks.specs.Order.{bladeCount}
 use Rattle.masks.specs.Outcome.{shapeOf}
 use Rattle.masks.proofs.OrderLaws.{blades-le}
 use Rattle.masks.proofs.ShapeLaws.{count-small}
-use Rattle.sheets.specs.Format.{anyAboveNine, bladesOf}
+use Rattle.sheets.specs.Format.{anyAboveNine, bladeTotal}
 use Rattle.sheets.proofs.FormatLaws.{above-take, dims-at, bladesOf-le}
 use Rattle.sheets.proofs.ValuesLaws.{start-next}
 use Rattle.sheets.proofs.shapes.blades_of.Statement.{statement}
@@ -30,13 +30,13 @@ module _ (ss : List Shape) (n i : ℕ) (few : n ≤ length ss) (small : anyAbove
   count-next : (k : ℕ) → i < n → k ≡ bladeCount (at ss i .dims) → k ≡ 2 ^ at ss i .dims
   count-next k h e = e ∙ count-small (at ss i .dims) (dims-small h)
 
-  sum-small : i ≤ n → bladesOf (take i ss) ≤ 512 * i
+  sum-small : i ≤ n → bladeTotal (take i ss) ≤ 512 * i
   sum-small h =
       let none : anyAboveNine (take i ss) ≡ false = rw (← (take-take i n ss h)) (above-take i (take n ss) small) in
       omega (arith, bladesOf-le (take i ss) none, length-take-le i ss (omega arith))
 
 abbrev Inv-loop : tie.InvT-loop
-Inv-loop n shapes sum₀ i₀ sum i = (i ≤ n) × (sum ≡ bladesOf (take i (shapes .held)))
+Inv-loop n shapes sum₀ i₀ sum i = (i ≤ n) × (sum ≡ bladeTotal (take i (shapes .held)))
 
 abbrev μ-loop : tie.MeasureT-loop
 μ-loop n shapes sum₀ i₀ sum i = n - i
@@ -45,7 +45,7 @@ held-length : (c : tie.Start Inv-loop μ-loop) → length (c .args .t1 .held) �
 held-length c = sym (length-map (c .args .t1 .held) _) ∙ c .good .0 .1 .1 .1 .0 .1 .0 .1
 
 loop-holds : tie.Need-loop-holds Inv-loop μ-loop
-unfolding bladesOf
+unfolding bladeTotal
 loop-holds c = (omega arith, refl)
 
 mul-s : tie.Need-mul-s Inv-loop μ-loop
@@ -97,7 +97,7 @@ returns c =
     let s = c .before .before .args in
     let l = c .before .loop in
     let all : l .i ≡ s .n = omega arith in
-    l .inv .1 ∙ ap (λ (k : ℕ). bladesOf (take k (s .t1 .held))) all
+    l .inv .1 ∙ ap (λ (k : ℕ). bladeTotal (take k (s .t1 .held))) all
 
 pub blades-of-spec : {M : Type 1} → statement M
 blades-of-spec =

@@ -10,7 +10,7 @@ use borrow.Author.Tests.{le-leb, lt-leb}
 use Rattle.masks.specs.declared.flavor.Flavor.the-variants.{Vanilla}
 use Rattle.masks.specs.Outcome.{refusal, unless, shapeOf}
 use Rattle.sheets.specs.declared.shapes.Shapes.{Shapes}
-use Rattle.sheets.specs.Format.{anyAboveNine, bladesOf}
+use Rattle.sheets.specs.Format.{anyAboveNine, bladeTotal}
 use Rattle.sheets.specs.Values.{refusedPlace, valueAt}
 use Rattle.sheets.specs.Shapes.{listedShapes}
 use Rattle.sheets.proofs.FormatLaws.{above-take}
@@ -39,7 +39,7 @@ module _ (s : Shapes) (n i : ℕ) (held : length (s .held) ≡ 64) (counted : n 
       value-before : anyAboveNine (take i (s .held)) ≡ false
       value-before = rw (← (take-take i n (s .held) (omega arith))) (above-take i (take n (s .held)) small)
 
-      value-listed : (k : ℕ) → k ≡ bladesOf (take i (s .held)) → record { number = 0; shape = getD (s .held) i (shapeOf 0 Vanilla); start = k } ≡ valueAt s i
+      value-listed : (k : ℕ) → k ≡ bladeTotal (take i (s .held)) → record { number = 0; shape = getD (s .held) i (shapeOf 0 Vanilla); start = k } ≡ valueAt s i
       unfolding valueAt unless refusal
       value-listed k e = rw (first, small, first-length, lt-leb n i h, e, getD-take n (s .held) i (shapeOf 0 Vanilla) h, take-take i n (s .held) (omega arith))
 

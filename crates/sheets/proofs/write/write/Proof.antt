@@ -12,7 +12,7 @@ use Rattle.sheets.specs.declared.shapes.Shapes.{Shapes}
 use Rattle.sheets.specs.Bytes.{littleEndian, allBytes}
 use Rattle.sheets.specs.Format.{shapeBytes, patternBytes, sheetBytes, limits}
 use Rattle.sheets.specs.Shapes.{listedShapes}
-use Rattle.sheets.specs.Writing.{sheetOf, writeSheet}
+use Rattle.sheets.specs.Write.{sheetOf, writeSheet}
 use Rattle.sheets.proofs.FormatLaws.{sheetBytes-length}
 use Rattle.sheets.proofs.WritingLaws.{Writable, writable, room-same, written, listed-length}
 use Rattle.sheets.proofs.write.write.Statement.{statement}

@@ -10,7 +10,7 @@ use borrow.Author.Tests.{lt-ltb, le-ltb, eq-eqb, ne-eqb}
 use borrow.Author.Needs.{needs}
 use Rattle.masks.specs.Outcome.{Test, refusal}
 use Rattle.masks.proofs.RefusalLaws.{refused-first, refused-later}
-use Rattle.sheets.specs.Format.{anyAboveNine, bladesOf, limits}
+use Rattle.sheets.specs.Format.{anyAboveNine, bladeTotal, limits}
 use Rattle.sheets.specs.Shapes.{listedShapes}
 use Rattle.sheets.proofs.WritingLaws.{listed-most}
 use Rattle.sheets.proofs.write.write_refusal.Statement.{statement}
@@ -33,11 +33,11 @@ unfolding refusal
 three i ts =
     rw (above (i .before .before .before) ∙ i .before .before .if1 .left, le-ltb 64 _ (i .before .if2 .left), le-ltb 4096 _ (i .if3 .left))
 
-blades : (b : tie.After-blades-of) → b .blades-of .result ≡ bladesOf (listedShapes (b .before .before .before .before .before .before .args .shapes))
-blades b = b .blades-of .ensures ∙ ap bladesOf (listed (b .before .before .before .before .before))
+blades : (b : tie.After-blades-of) → b .blades-of .result ≡ bladeTotal (listedShapes (b .before .before .before .before .before .before .args .shapes))
+blades b = b .blades-of .ensures ∙ ap bladeTotal (listed (b .before .before .before .before .before))
 
 -- and the fourth
-four : (i : tie.Else4) → not (eqb (i .before .before .before .before .before .before .before .args .patterns) (bladesOf (listedShapes (i .before .before .before .before .before .before .before .args .shapes)))) ≡ false
+four : (i : tie.Else4) → not (eqb (i .before .before .before .before .before .before .before .args .patterns) (bladeTotal (listedShapes (i .before .before .before .before .before .before .before .args .shapes)))) ≡ false
 four i = rw (eq-eqb _ _ (i .if4 .left ∙ blades (i .before)))
 
 none : refusal [] ≡ 0

@@ -1,6 +1,6 @@
 -- `masks::flavor::Flavor::added_dims` meets its contract, variant by variant. Assumes nothing.
 use borrow.Author.Needs.{needs}
-use Rattle.masks.specs.Flavors.{addedDims}
+use Rattle.masks.specs.Flavor.{addedDims}
 use Rattle.masks.proofs.flavor.Flavor.added_dims.Statement.{statement}
 use Rattle.masks.proofs.flavor.Flavor.added_dims.Tie as tie
 

@@ -1,7 +1,7 @@
 -- `masks::flavor::Flavor::metric` meets its contract, variant by variant. Assumes nothing.
 use mathlib.Core.Path.{_∙_}
 use borrow.Author.Needs.{needs}
-use Rattle.masks.specs.Flavors.{metricOf, metricValue}
+use Rattle.masks.specs.Flavor.{metricOf, metricValue}
 use Rattle.masks.proofs.flavor.Flavor.metric.Statement.{statement}
 use Rattle.masks.proofs.flavor.Flavor.metric.Tie as tie
 

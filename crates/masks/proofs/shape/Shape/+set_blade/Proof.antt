@@ -9,7 +9,8 @@ use lib.ListN.{length}
 use lib.Seq.{length-take-le}
 use Rattle.masks.specs.Order.{placesOf}
 use Rattle.masks.specs.Outcome.{laid, Gives}
-use Rattle.masks.specs.Shapes.{withDims, setBlade}
+use Rattle.masks.specs.Shape.{withDims}
+use Rattle.masks.specs.Blade.{setBlade}
 use Rattle.masks.proofs.OrderLaws.{blades-le}
 use Rattle.masks.proofs.RefusalLaws.{gives-refused, gives-done}
 use Rattle.masks.proofs.ShapeLaws.{holds-masks, holds-places, resized-held}

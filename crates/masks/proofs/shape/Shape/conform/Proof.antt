@@ -5,7 +5,7 @@ use native.Mathlib.Omega.{arith}
 use borrow.Author.Needs.{needs}
 use lib.ListN.{length}
 use Rattle.masks.specs.Outcome.{refusal, laid}
-use Rattle.masks.specs.Shapes.{promotes, conformed, conformedShape, conform}
+use Rattle.masks.specs.Shape.{promotes, conformed, conformedShape, conform}
 use Rattle.masks.proofs.RefusalLaws.{gives-both-refused, gives-both-done}
 use Rattle.masks.proofs.ChangeLaws.{promotes-le, promoted-small, pairChecks, pair-checks-same, Paired, paired}
 use Rattle.masks.proofs.shape.Shape.conform.Statement.{statement}

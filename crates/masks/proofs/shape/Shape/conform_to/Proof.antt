@@ -5,7 +5,7 @@ use native.Mathlib.Omega.{arith}
 use borrow.Author.Needs.{needs}
 use lib.ListN.{length}
 use Rattle.masks.specs.Outcome.{refusal, laid}
-use Rattle.masks.specs.Shapes.{promotes, conformed, conformedShape, conformTo}
+use Rattle.masks.specs.Shape.{promotes, conformed, conformedShape, conformTo}
 use Rattle.masks.proofs.RefusalLaws.{Taken, taken, gives-refused, gives-done}
 use Rattle.masks.proofs.ChangeLaws.{promotes-le, promoted-small, checks, checked, checks-same}
 use Rattle.masks.proofs.shape.Shape.conform_to.Statement.{statement}

@@ -1,7 +1,7 @@
 -- `masks::shape::Shape::conformed` meets its contract, by its test. Assumes nothing.
 use mathlib.Core.Path.{ap, _∙_}
 use borrow.Author.Needs.{needs}
-use Rattle.masks.specs.Shapes.{withDims, withFlavor, conformedShape}
+use Rattle.masks.specs.Shape.{withDims, withFlavor, conformedShape}
 use Rattle.masks.proofs.ChangeLaws.{flavor-one}
 use Rattle.masks.proofs.shape.Shape.conformed.Statement.{statement}
 use Rattle.masks.proofs.shape.Shape.conformed.Tie as tie

@@ -4,7 +4,8 @@ use mathlib.Core.List.{[]}
 use borrow.Author.Needs.{needs}
 use lib.Ieee.{ofBits, ofFields}
 use lib.ListN.{length}
-use Rattle.masks.specs.Shapes.{getBlade, refusedNumber}
+use Rattle.masks.specs.Outcome.{refusedReal}
+use Rattle.masks.specs.Blade.{getBlade}
 use Rattle.masks.proofs.RefusalLaws.{unless-refused, unless-done}
 use Rattle.masks.proofs.ShapeLaws.{holds-places}
 use Rattle.masks.proofs.BladeLaws.{Valued, valued}
@@ -16,7 +17,7 @@ value-refusal-requires c κs = search needs
 
 returns : tie.Need-returns
 unfolding getBlade ofBits ofFields
-returns c = sym (unless-refused refusedNumber _ _ _ (c .before .value-refusal .ensures) (c .if1 .taken))
+returns c = sym (unless-refused refusedReal _ _ _ (c .before .value-refusal .ensures) (c .if1 .taken))
 
 order-of-requires : tie.Need-order-of-requires
 order-of-requires c κs = search needs
@@ -32,7 +33,7 @@ returns-2 : tie.Need-returns-2
 unfolding getBlade
 returns-2 c =
     let i = c .before .before .before .before in
-    rw (c .coefficient .ensures) (sym (unless-done refusedNumber _ _ _ (i .before .value-refusal .ensures) (i .if1 .left)))
+    rw (c .coefficient .ensures) (sym (unless-done refusedReal _ _ _ (i .before .value-refusal .ensures) (i .if1 .left)))
 
 pub get-blade-spec : {M : Type 1} → statement M
 get-blade-spec =

@@ -5,7 +5,7 @@ use Prim.Native.Nat.{_+_, _≤_}
 use native.Mathlib.Omega.{arith}
 use borrow.Author.Needs.{needs}
 use lib.ListN.{length}
-use Rattle.masks.specs.Shapes.{gradePart}
+use Rattle.masks.specs.Blade.{gradePart}
 use Rattle.masks.proofs.OrderLaws.{part-fits}
 use Rattle.masks.proofs.RefusalLaws.{unless-refused, unless-done}
 use Rattle.masks.proofs.BladeLaws.{Graded, graded, part-eq}

@@ -5,7 +5,7 @@ use mathlib.Core.List.{[], _∷_}
 use lib.Dec.{ltb}
 use borrow.Author.Needs.{needs}
 use borrow.Author.Tests.{lt-ltb, le-ltb}
-use Rattle.masks.specs.Shapes.{gradeRefusal}
+use Rattle.masks.specs.Blade.{gradeRefusal}
 use Rattle.masks.proofs.BladeLaws.{sooner, grade-later}
 use Rattle.masks.proofs.shape.Shape.grade_refusal.Statement.{statement}
 use Rattle.masks.proofs.shape.Shape.grade_refusal.Tie as tie

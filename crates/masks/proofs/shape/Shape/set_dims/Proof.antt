@@ -5,7 +5,7 @@ use native.Mathlib.Omega.{arith}
 use borrow.Author.Needs.{needs}
 use lib.ListN.{length}
 use Rattle.masks.specs.Outcome.{refusal, laid}
-use Rattle.masks.specs.Shapes.{setDims}
+use Rattle.masks.specs.Shape.{setDims}
 use Rattle.masks.proofs.RefusalLaws.{Taken, taken, gives-refused, gives-done}
 use Rattle.masks.proofs.ChangeLaws.{checks, checked, conformed-none}
 use Rattle.masks.proofs.shape.Shape.set_dims.Statement.{statement}

@@ -4,7 +4,7 @@ use Prim.Native.Nat.{_^_, _≤_}
 use borrow.Author.Needs.{needs}
 use lib.ListN.{length}
 use Rattle.masks.specs.Order.{order}
-use Rattle.masks.specs.Shapes.{coef}
+use Rattle.masks.specs.Shape.{coef}
 use Rattle.masks.specs.Unpack.{unpackAll, unpackRefusal}
 use Rattle.masks.proofs.OrderLaws.{length-order}
 use Rattle.masks.proofs.RefusalLaws.{Taken, taken, writes-refused, writes-done}

@@ -5,7 +5,7 @@ use borrow.Author.Needs.{needs}
 use lib.Dec.{lit≤}
 use lib.ListN.{length, take, drop}
 use Rattle.masks.specs.Order.{order}
-use Rattle.masks.specs.Shapes.{coef}
+use Rattle.masks.specs.Shape.{coef}
 use Rattle.masks.specs.Unpack.{unpackVector}
 use Rattle.masks.proofs.RefusalLaws.{Taken, taken, writes-refused, writes-done}
 use Rattle.masks.proofs.ShapeLaws.{holds-masks, holds-places}

@@ -11,8 +11,9 @@ use Rattle.masks.specs.Build.{atGrade}
 use Rattle.product.specs.declared.mode.Mode.the-variants.{All}
 use Rattle.product.specs.Pairwise.{product}
 use Rattle.product.specs.Products.{outerProduct}
-use Rattle.arithmetic.specs.Kept.{unit, kept}
-use Rattle.arithmetic.specs.Operators.{pairTests, joinedDims, withCoefs, multiply}
+use Rattle.arithmetic.specs.Kept.{kept}
+use Rattle.arithmetic.specs.Scale.{unity}
+use Rattle.arithmetic.specs.Operators.{pairTests, joinedDims, withCoefs, multiplication}
 
 -- Room for any value: none has more numbers.
 abbrev pub ample : ℕ
@@ -20,7 +21,7 @@ ample = 512
 
 -- The Vanilla pseudo unit of d dimensions has 1 at the last grade.
 abbrev pub pseudoUnit : ℕ → List Float
-pseudoUnit d = atGrade d d (unit ∷ [])
+pseudoUnit d = atGrade d d (unity ∷ [])
 
 -- `dual` is the product with the Vanilla pseudo unit on the right, metric Vanilla, own flavor kept.
 unfoldable pub dualOf : ℕ → List Float → List Float
@@ -31,7 +32,7 @@ dual s = kept (dualOf (s .dims)) s
 
 -- `antidual` is the Vanilla pseudo unit `*` the value read as Vanilla, own flavor put back after.
 unfoldable pub antidualOf : ℕ → List Float → List Float
-antidualOf d a = multiply (shapeOf d Vanilla) (shapeOf d Vanilla) (pseudoUnit d) a ample .coefs
+antidualOf d a = multiplication (shapeOf d Vanilla) (shapeOf d Vanilla) (pseudoUnit d) a ample .coefs
 
 abbrev pub antidual : Shape → List Float → ℕ → Outcome
 antidual s = kept (antidualOf (s .dims)) s

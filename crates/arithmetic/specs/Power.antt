@@ -7,14 +7,14 @@ use lib.Ieee.{Float}
 use lib.IntN.{ℤ, pos, negsuc}
 use lib.ListN.{length}
 use Rattle.masks.specs.declared.shape.Shape.{Shape}
-use Rattle.masks.specs.Flavors.{addedDims}
+use Rattle.masks.specs.Flavor.{addedDims}
 use Rattle.masks.specs.Outcome.{Outcome, refusal, tooMany, wrongCount, noRoom, unless, value, refusedValue}
-use Rattle.masks.specs.Shapes.{withDims}
+use Rattle.masks.specs.Shape.{withDims}
 use Rattle.masks.specs.Build.{scalar}
 use Rattle.arithmetic.specs.Scalar.{testOf, wasPlanar}
-use Rattle.arithmetic.specs.Kept.{unit}
-use Rattle.arithmetic.specs.Operators.{multiply}
-use Rattle.arithmetic.specs.Duals.{ample}
+use Rattle.arithmetic.specs.Scale.{unity}
+use Rattle.arithmetic.specs.Operators.{multiplication}
+use Rattle.arithmetic.specs.Dual.{ample}
 use Rattle.arithmetic.specs.Inverse.{squared, inverseOf}
 
 -- ---- the exponent
@@ -42,11 +42,11 @@ powerDims s n = cond (isDirect n) (s .dims) (s .dims + addedDims (s .flavor))
 unfoldable pub raised : Shape → ℕ → ℕ → List Float → List Float → List Float
 raised s zero n r x = r
 raised s (suc k) n r x =
-    raised s k (n / 2) (cond (eqb (n % 2) 1) (multiply (withDims s (s .dims + addedDims (s .flavor))) s r x ample .coefs) r) (squared s x)
+    raised s k (n / 2) (cond (eqb (n % 2) 1) (multiplication (withDims s (s .dims + addedDims (s .flavor))) s r x ample .coefs) r) (squared s x)
 
 -- A power of at most 31 digits.
 unfoldable pub byDigits : Shape → ℕ → List Float → List Float
-byDigits s n x = raised s 31 n (scalar (s .dims) unit (s .flavor) ample .coefs) x
+byDigits s n x = raised s 31 n (scalar (s .dims) unity (s .flavor) ample .coefs) x
 
 -- x to the n.
 unfoldable pub raisedTo : Shape → ℕ → List Float → List Float

@@ -5,7 +5,7 @@ use lib.IntN.{ℤ, pos}
 use Rattle.clifford.specs.Metric.{metric}
 use Rattle.clifford.specs.Pairs.{within}
 use Rattle.masks.specs.declared.flavor.Flavor.{Flavor}
-use Rattle.masks.specs.Flavors.{metricOf, nullFlavor}
+use Rattle.masks.specs.Flavor.{metricOf, nullFlavor}
 use Rattle.product.specs.declared.mode.Mode.{Mode}
 use Rattle.product.specs.declared.mode.Mode.the-variants.{All, Left, Right, Inner, Outer}
 

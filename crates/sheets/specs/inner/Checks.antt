@@ -7,7 +7,7 @@ use lib.ListN.{getD}
 use Rattle.masks.specs.Outcome.{refusal, unless}
 use Rattle.masks.specs.Text.{same}
 use Rattle.sheets.specs.Format.{shapeBytes}
-use Rattle.sheets.specs.Reading.{shapeFrom, said, malformed, ReadOutcome, refusedSheet, aSheet}
+use Rattle.sheets.specs.Read.{shapeFrom, said, malformed, ReadOutcome, refusedSheet, aSheet}
 
 -- Bytes are those of a shape of at most nine dimensions.
 unfoldable pub isShape : List ℕ → Bool

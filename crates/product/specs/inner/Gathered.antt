@@ -12,7 +12,7 @@ use Rattle.rounding.specs.Terms.{Term, prod, run}
 use Rattle.masks.specs.declared.flavor.Flavor.{Flavor}
 use Rattle.masks.specs.Order.{place, upFrom}
 use Rattle.product.specs.declared.mode.Mode.{Mode}
-use Rattle.product.specs.Modes.{pairMetric}
+use Rattle.product.specs.Mode.{pairMetric}
 use Rattle.product.specs.Pairwise.{maskAt}
 
 -- `negative` tells whether a metric is below zero.

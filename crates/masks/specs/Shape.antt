@@ -1,24 +1,17 @@
--- Changes of shape, and single blades. Assumes nothing.
-use mathlib.Core.Bool.{Bool, false, not, _&&_, _||_, cond}
+-- Changes of shape. Assumes nothing.
+use mathlib.Core.Bool.{Bool, _&&_, _||_, cond}
 use mathlib.Core.List.{List, [], _∷_, map}
-use Prim.Native.Nat.{ℕ, zero, suc, _+_, _-_, _^_, _/_, _%_, max}
+use Prim.Native.Nat.{ℕ, zero, suc, _+_, _^_, _/_, _%_, max}
 use lib.Dec.{eqb, ltb}
-use lib.Ieee.{Float, fin, nan, neg}
-use lib.IntN.{pos}
-use lib.ListN.{length, getD, set, take, drop}
+use lib.Ieee.{Float, nan, neg}
+use lib.ListN.{length, getD}
 use Rattle.masks.specs.declared.flavor.Flavor.{Flavor}
 use Rattle.masks.specs.declared.flavor.Flavor.the-variants.{Vanilla, Projective, Cl}
 use Rattle.masks.specs.declared.shape.Shape.{Shape}
-use Rattle.masks.specs.declared.outcome.Number.{Number}
-use Rattle.masks.specs.declared.outcome.Count.{Count}
-use Rattle.masks.specs.Order.{order, place, size, start}
-use Rattle.masks.specs.Outcome.{Outcome, Pair, refusal, tooMany, wrongCount, noRoom, unless, value, refusedValue, refusedPair}
+use Rattle.masks.specs.Order.{order, place}
+use Rattle.masks.specs.Outcome.{Outcome, Pair, nought, refusal, tooMany, wrongCount, noRoom, unless, value, refusedValue, refusedPair}
 
 -- ---- coefficients by mask
-
--- `nought` is +0.
-abbrev pub nought : Float
-nought = fin false 0 (pos 0)
 
 -- `coef d a m` is the coefficient of a mask in a value of d dimensions: +0 for a mask outside.
 unfoldable pub coef : ℕ → List Float → ℕ → Float
@@ -123,53 +116,3 @@ conform s t a b room roomRight =
       leftCoefs = conformed up (s .dims) n a;
       rightCoefs = conformed upRight (t .dims) n b;
     })
-
--- ---- single blades
-
--- A refusal's number has the value 0.
-abbrev pub refusedNumber : ℕ → Number
-refusedNumber k = record { number = k; value = nought }
-
--- `getBlade` gives 0 for a mask outside.
-unfoldable pub getBlade : Shape → ℕ → List Float → Number
-getBlade s m a =
-    unless refusedNumber (refusal (tooMany (s .dims) ∷ wrongCount (length a) (s .dims) ∷ []))
-    (record { number = 0; value = coef (s .dims) a m })
-
--- `bladeDims k d m` is the dimensions that a mask needs, from d on and at most k more.
-unfoldable pub bladeDims : ℕ → ℕ → ℕ → ℕ
-bladeDims zero d m = d
-bladeDims (suc k) d m = cond (ltb m (2 ^ d)) d (bladeDims k (d + 1) m)
-
--- `withBlade k d m x a` has x at a mask; outside, it grows by one dimension and calls itself, at most k times.
-unfoldable pub withBlade : ℕ → ℕ → ℕ → Float → List Float → List Float
-withBlade zero d m x a = set a (place d m) x
-withBlade (suc k) d m x a = cond (ltb m (2 ^ d)) (set a (place d m) x) (withBlade k (d + 1) m x (resized d (d + 1) a))
-
--- A mask of 512 or more needs too many dimensions.
-unfoldable pub setBlade : Shape → ℕ → Float → List Float → ℕ → Outcome
-setBlade s m x a room =
-    let n = bladeDims (9 - s .dims) (s .dims) m in
-    unless refusedValue
-    (refusal
-    (tooMany (s .dims) ∷ record { fails = not (ltb m 512); number = 1 } ∷ wrongCount (length a) (s .dims) ∷ noRoom room (2 ^ n) ∷ []))
-    (value (withDims s n) (withBlade (9 - s .dims) (s .dims) m x a))
-
--- ---- one grade
-
--- 4: The part of a value at a grade above its dimensions is asked for.
-unfoldable pub gradeRefusal : Shape → ℕ → List Float → ℕ
-gradeRefusal s g a =
-    refusal (tooMany (s .dims) ∷ wrongCount (length a) (s .dims) ∷ record { fails = ltb (s .dims) g; number = 4 } ∷ [])
-
--- One grade of a value starts at the sum of the lower grades' sizes and has as many numbers as its size.
-unfoldable pub gradePart : Shape → ℕ → List Float → List Float
-gradePart s g a = unless (λ k. []) (gradeRefusal s g a) (take (size (s .dims) g) (drop (start (s .dims) g) a))
-
--- A refusal's count is 0.
-abbrev pub refusedCount : ℕ → Count
-refusedCount k = record { number = k; count = 0 }
-
--- `gradeSize` is the binomial number, 0 for a grade above the dimensions.
-unfoldable pub gradeSize : ℕ → ℕ → Count
-gradeSize d g = unless refusedCount (refusal (tooMany d ∷ [])) (record { number = 0; count = size d g })

@@ -8,10 +8,10 @@ use Rattle.clifford.specs.Blade.{has, count}
 use Rattle.clifford.specs.Metric.{turned}
 use Rattle.clifford.specs.Pairs.{nonzero}
 use Rattle.masks.specs.declared.flavor.Flavor.{Flavor}
-use Rattle.masks.specs.Flavors.{metricOf}
+use Rattle.masks.specs.Flavor.{metricOf}
 use Rattle.product.specs.declared.metric.Squares.{Squares}
 use Rattle.product.specs.declared.metric.Blade.{Blade}
-use Rattle.product.specs.Gathered.{negative}
+use Rattle.product.specs.inner.Gathered.{negative}
 
 -- `maskOf n test` has the bits below n that pass a test.
 unfoldable pub maskOf : ℕ → (ℕ → Bool) → ℕ
@@ -26,13 +26,13 @@ squaresBelow n f = record { null = maskOf n (λ i. not (nonzero (metricOf f i)))
 unfoldable pub withSquare : Squares → ℤ → ℕ → Squares
 withSquare s m bit = record { null = s .null + cond (nonzero m) 0 bit; minus = s .minus + cond (negative m) bit 0 }
 
--- `below b` has the bits that an odd number of b's bits stand below.
-unfoldable pub below : ℕ → ℕ
-below b = maskOf 9 (λ i. eqb (count i (has b) % 2) 1)
+-- `oddBelow b` has the bits that an odd number of b's bits stand below.
+unfoldable pub oddBelow : ℕ → ℕ
+oddBelow b = maskOf 9 (λ i. eqb (count i (has b) % 2) 1)
 
 -- A blade of b, with the vectors of a that it makes the metric 0 by, and those that change the sign.
 unfoldable pub bladeOf : Squares → ℕ → Blade
-bladeOf s b = record { mask = b; null = bitAnd b (s .null); flips = bitXor (below b) (bitAnd b (s .minus)) }
+bladeOf s b = record { mask = b; null = bitAnd b (s .null); flips = bitXor (oddBelow b) (bitAnd b (s .minus)) }
 
 -- 1 for the mask 101.
 abbrev pub turnedOne : ℕ → ℕ

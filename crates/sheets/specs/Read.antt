@@ -11,7 +11,7 @@ use Rattle.masks.specs.declared.shape.Shape.{Shape}
 use Rattle.masks.specs.Outcome.{Test, refusal, noRoom, unless, shapeOf, laid}
 use Rattle.masks.specs.Text.{same}
 use Rattle.sheets.specs.declared.read.SheetRead.{SheetRead}
-use Rattle.sheets.specs.Bytes.{number, itemsIn, afterSection}
+use Rattle.sheets.specs.Bytes.{fromLittleEndian, itemsIn, afterSection}
 use Rattle.sheets.specs.Format.{Sheet, sheetBytes, limits}
 use Rattle.sheets.specs.Shapes.{shapesOf}
 
@@ -28,7 +28,7 @@ shapeFrom c = shapeOf (getD c 0 0) (flavorFrom (getD c 1 0) (getD c 2 0) (getD c
 
 -- `said` is the sheet that bytes would be, by their counts.
 unfoldable pub said : List ℕ → Sheet
-said b = record { shapes = map shapeFrom (itemsIn 2 5 b); patterns = map number (itemsIn 4 8 (afterSection 2 5 b)) }
+said b = record { shapes = map shapeFrom (itemsIn 2 5 b); patterns = map fromLittleEndian (itemsIn 4 8 (afterSection 2 5 b)) }
 
 -- A sheet is within its limits.
 abbrev pub isSheet : Sheet → Bool

@@ -1,0 +1,50 @@
+-- Single blades, and one grade of a value. Assumes nothing.
+use mathlib.Core.Bool.{not, cond}
+use mathlib.Core.List.{List, [], _∷_}
+use Prim.Native.Nat.{ℕ, zero, suc, _+_, _-_, _^_}
+use lib.Dec.{ltb}
+use lib.Ieee.{Float}
+use lib.ListN.{length, set, take, drop}
+use Rattle.masks.specs.declared.shape.Shape.{Shape}
+use Rattle.masks.specs.declared.outcome.Real.{Real}
+use Rattle.masks.specs.Order.{place, size, start}
+use Rattle.masks.specs.Outcome.{Outcome, refusal, tooMany, wrongCount, noRoom, unless, value, refusedValue, refusedReal}
+use Rattle.masks.specs.Shape.{coef, withDims, resized}
+
+-- ---- single blades
+
+-- `getBlade` gives 0 for a mask outside.
+unfoldable pub getBlade : Shape → ℕ → List Float → Real
+getBlade s m a =
+    unless refusedReal (refusal (tooMany (s .dims) ∷ wrongCount (length a) (s .dims) ∷ []))
+    (record { number = 0; value = coef (s .dims) a m })
+
+-- `bladeDims k d m` is the dimensions that a mask needs, from d on and at most k more.
+unfoldable pub bladeDims : ℕ → ℕ → ℕ → ℕ
+bladeDims zero d m = d
+bladeDims (suc k) d m = cond (ltb m (2 ^ d)) d (bladeDims k (d + 1) m)
+
+-- `withBlade k d m x a` has x at a mask; outside, it grows by one dimension and calls itself, at most k times.
+unfoldable pub withBlade : ℕ → ℕ → ℕ → Float → List Float → List Float
+withBlade zero d m x a = set a (place d m) x
+withBlade (suc k) d m x a = cond (ltb m (2 ^ d)) (set a (place d m) x) (withBlade k (d + 1) m x (resized d (d + 1) a))
+
+-- A mask of 512 or more needs too many dimensions.
+unfoldable pub setBlade : Shape → ℕ → Float → List Float → ℕ → Outcome
+setBlade s m x a room =
+    let n = bladeDims (9 - s .dims) (s .dims) m in
+    unless refusedValue
+    (refusal
+    (tooMany (s .dims) ∷ record { fails = not (ltb m 512); number = 1 } ∷ wrongCount (length a) (s .dims) ∷ noRoom room (2 ^ n) ∷ []))
+    (value (withDims s n) (withBlade (9 - s .dims) (s .dims) m x a))
+
+-- ---- one grade
+
+-- 4: The part of a value at a grade above its dimensions is asked for.
+unfoldable pub gradeRefusal : Shape → ℕ → List Float → ℕ
+gradeRefusal s g a =
+    refusal (tooMany (s .dims) ∷ wrongCount (length a) (s .dims) ∷ record { fails = ltb (s .dims) g; number = 4 } ∷ [])
+
+-- One grade of a value starts at the sum of the lower grades' sizes and has as many numbers as its size.
+unfoldable pub gradePart : Shape → ℕ → List Float → List Float
+gradePart s g a = unless (λ k. []) (gradeRefusal s g a) (take (size (s .dims) g) (drop (start (s .dims) g) a))
