@@ -18,7 +18,7 @@ module _ {A : Type 0} {g : ℕ → ℤ} {d : ℕ} (K : Clifford A g d) where
   value-++ [] v = sym (unit-l (value K v))
   value-++ (i ∷ u) v = ap (λ x. e i · x) (value-++ u v) ∙ sym (assoc (e i) (value K u) (value K v))
 
-  pair : (i j : ℕ) → value K (i ∷ j ∷ []) ≡ e i · e j
+  pub pair : (i j : ℕ) → value K (i ∷ j ∷ []) ≡ e i · e j
   unfolding value
   pair i j = ap (λ x. e i · x) (unit-r (e j))
 

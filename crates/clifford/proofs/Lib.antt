@@ -9,8 +9,10 @@ pub mod RelationsLaws
 pub mod RelationsModel
 pub mod PlacedLaws
 pub mod AlgebraLaws
+pub mod VectorLaws
 pub mod Twisted
 pub mod ProductLaws
+pub mod AlgebraModel
 pub mod Counting
 pub mod PairsLaws
 pub mod Examples

@@ -1,9 +1,10 @@
--- The product over the whole numbers groups either way, has a unit, is turned round by reversal, and is a sum of 2 ^ d terms at each place.
+-- The product over the whole numbers groups either way, has a unit, lets multiples through, is turned round by reversal, and is a sum of 2 ^ d terms at each place.
 use mathlib.Core.Path.{_≡_, sym, _∙_, ap}
-use Prim.Native.Nat.{ℕ, _^_, _<_}
+use Prim.Native.Nat.{ℕ, _^_, _<_, _≤_}
+use native.Mathlib.Omega.{arith}
 use lib.Pow.{pow-pos}
 use lib.Bits.{bitXor, xor-lt, xor-comm, xor-zero-l, xor-zero-r}
-use lib.IntN.{ℤ, _*ℤ_}
+use lib.IntN.{ℤ, pos, _*ℤ_, zero-*ℤ}
 use Rattle.clifford.specs.Blade.{has, count}
 use Rattle.clifford.specs.Sign.{reversal}
 use Rattle.clifford.specs.Metric.{metric}
@@ -12,7 +13,7 @@ use Rattle.clifford.specs.Product.{Bijection, multiply, reverse}
 use Rattle.clifford.proofs.Ring.{product}
 use Rattle.clifford.proofs.BladeLaws.{xor-assoc, xor-cancel}
 use Rattle.clifford.proofs.MetricLaws.{metric-cocycle, metric-reversal, metric-zero-l, metric-zero-r}
-use Rattle.clifford.proofs.SumLaws.{sum-ext, sum-at}
+use Rattle.clifford.proofs.SumLaws.{sum-ext, sum-zero, sum-mul, sum-at, δ-other}
 use Rattle.clifford.proofs.Twisted.{weighed, times, times-assoc, times-signed, times-at, basis-times, unit-times, times-unit}
 
 module _ (g : ℕ → ℤ) (d : ℕ) (order place : ℕ → ℕ) (inverse : Bijection d order place) where
@@ -30,6 +31,13 @@ module _ (g : ℕ → ℤ) (d : ℕ) (order place : ℕ → ℕ) (inverse : Bije
 
   order-meet : (i j : ℕ) → i < 2 ^ d → j < 2 ^ d → order (meet i j) ≡ bitXor (order i) (order j)
   order-meet i j hi hj = order-place _ (xor-order i j hi hj)
+
+  -- There is nothing past the last place.
+  pub multiply-beyond : (a b : ℕ → ℤ) (k : ℕ) → 2 ^ d ≤ k → multiply g d order place a b k ≡ pos 0
+  unfolding multiply
+  multiply-beyond a b k h =
+      sum-ext (2 ^ d) _ (λ j. pos 0) (λ j hj. sum-ext (2 ^ d) _ (λ i. pos 0) (λ i hi.
+      rw (δ-other (meet i j) k (λ e. omega (arith, meet-lt i j hi hj)), zero-*ℤ)) ∙ sum-zero (2 ^ d)) ∙ sum-zero (2 ^ d)
 
   -- Three factors group either way.
   pub multiply-assoc : (a b c : ℕ → ℤ) (k : ℕ)
@@ -81,6 +89,16 @@ module _ (g : ℕ → ℤ) (d : ℕ) (order place : ℕ → ℕ) (inverse : Bije
       ∙ ap place (xor-comm (bitXor (order j) (order l)) (order j) ∙ ap (bitXor (order j)) (xor-comm (order j) (order l))
       ∙ xor-cancel d (order l) (order j) (order-lt l hl) (order-lt j hj)) ∙ place-order l hl)
       a b k hk
+
+-- A multiple of a factor is that multiple of the product.
+module _ (g : ℕ → ℤ) (d : ℕ) (order place : ℕ → ℕ) (s : ℤ) (a b : ℕ → ℤ) (k : ℕ) where
+  pub scaled-multiply : multiply g d order place (λ i. s *ℤ a i) b k ≡ s *ℤ multiply g d order place a b k
+  unfolding multiply
+  scaled-multiply = sym (sum-mul (2 ^ d) s _ ∙ sum-ext (2 ^ d) _ _ (λ j _. sum-mul (2 ^ d) s _ ∙ sum-ext (2 ^ d) _ _ (λ i _. simp product)))
+
+  pub multiply-scaled : multiply g d order place a (λ j. s *ℤ b j) k ≡ s *ℤ multiply g d order place a b k
+  unfolding multiply
+  multiply-scaled = sym (sum-mul (2 ^ d) s _ ∙ sum-ext (2 ^ d) _ _ (λ j _. sum-mul (2 ^ d) s _ ∙ sum-ext (2 ^ d) _ _ (λ i _. simp product)))
 
 -- Two basis blades multiply to their metric at the place of their masks' xor.
 pub multiply-basis : (g : ℕ → ℤ) (d : ℕ) (order place : ℕ → ℕ) (i j : ℕ) → i < 2 ^ d → j < 2 ^ d → (k : ℕ)

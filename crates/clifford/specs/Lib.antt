@@ -6,4 +6,5 @@ pub mod Relations
 pub mod Placed
 pub mod Algebra
 pub mod Product
+pub mod Multivector
 pub mod Pairs

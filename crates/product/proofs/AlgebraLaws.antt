@@ -1,26 +1,20 @@
 -- Over whole numbers the general product is Clifford's: it groups, has the unit, reverses, and has the defining relations. Assumes nothing.
-use mathlib.Core.Path.{_≡_, refl, sym, _∙_, ap, ap₂}
-use mathlib.Core.Bool.{true, false, and-false}
+use mathlib.Core.Path.{_≡_, sym, _∙_, ap, ap₂}
+use mathlib.Core.Bool.{true}
 use mathlib.Core.List.{[], _∷_, _++_}
 use mathlib.Core.Logic.{_≢_}
-use Prim.Native.Nat.{ℕ, zero, suc, _*_, _/_, _%_, _^_, _<_}
-use native.Mathlib.Nat.{pow-suc}
-use native.Mathlib.Omega.{arith}
-use native.Mathlib.Decide.{ℕ-discrete}
+use Prim.Native.Nat.{ℕ, _^_, _<_}
 use lib.Bits.{bitXor, xor-self, xor-comm, xor-lt}
-use lib.Dec.{eqb, eqb·zero-suc, eqb·suc-zero, eqb·suc-suc, lit<}
-use lib.IntN.{ℤ, pos, negℤ, _*ℤ_}
+use lib.IntN.{ℤ, negℤ, _*ℤ_}
 use lib.Pow.{pow-lt}
-use borrow.Author.Tests.{eq-eqb, ne-eqb}
-use Rattle.clifford.specs.Blade.{Blade, has}
 use Rattle.clifford.specs.Sum.{δ}
 use Rattle.clifford.specs.Metric.{metric}
-use Rattle.clifford.specs.Relations.{Equals, exchange, square, chain, word}
+use Rattle.clifford.specs.Relations.{Equals}
 use Rattle.clifford.specs.Placed.{stands}
 use Rattle.clifford.specs.Product.{Bijection, reverse}
-use Rattle.clifford.proofs.Ring.{neg-mul, one-mul}
-use Rattle.clifford.proofs.BladeLaws.{has-zero, has-suc, has-beyond}
+use Rattle.clifford.proofs.Ring.{neg-mul}
 use Rattle.clifford.proofs.PlacedLaws.{metric-derived, metric-unique}
+use Rattle.clifford.proofs.VectorLaws.{metric-squared, metric-exchanged}
 use Rattle.clifford.proofs.ProductLaws.{multiply-assoc, unit-multiply, multiply-unit, reverse-multiply, multiply-basis}
 use Rattle.masks.specs.declared.flavor.Flavor.{Flavor}
 use Rattle.masks.specs.Order.{grade, gradesBelow, order, place}
@@ -40,60 +34,6 @@ inverse d =
       order-place = order-place d;
       place-order = λ i h. order-at d i h .back;
     }
-
--- ---- what a power of two stands for
-
-power-bit : (i j : ℕ) → has (2 ^ i) j ≡ eqb i j
-power-bit zero zero = has-zero 1
-power-bit zero (suc j) = has-suc 1 j ∙ has-beyond 0 0 j (lit< tt) (omega arith) ∙ sym (eqb·zero-suc j)
-power-bit (suc i) zero = has-zero (2 ^ suc i) ∙ ap (λ (x : ℕ). eqb x 1) (even (2 ^ i) (2 ^ suc i) (pow-suc 2 i)) ∙ sym (eqb·suc-zero i)
-  where
-    even : (m n : ℕ) → n ≡ m * 2 → n % 2 ≡ 0
-    even m n e = omega arith
-power-bit (suc i) (suc j) =
-    has-suc (2 ^ suc i) j ∙ ap (λ (m : ℕ). has m j) (half (2 ^ i) (2 ^ suc i) (pow-suc 2 i)) ∙ power-bit i j ∙ sym (eqb·suc-suc i j)
-  where
-    half : (m n : ℕ) → n ≡ m * 2 → n / 2 ≡ m
-    half m n e = omega arith
-
-power-not-five : (i : ℕ) → 2 ^ i ≢ 5
-power-not-five zero e = omega arith
-power-not-five (suc i) e = omega (arith, pow-suc 2 i)
-
-word-none : (d : ℕ) (a : Blade) → ((j : ℕ) → j < d → a j ≡ false) → word d a ≡ []
-unfolding word
-word-none zero a h = refl
-word-none (suc d) a h = rw (word-none d a (λ j l. h j (omega arith)), h d (omega arith))
-
-word-one : (d i : ℕ) → i < d → word d (has (2 ^ i)) ≡ i ∷ []
-unfolding word
-word-one zero i h = absurd (omega arith)
-word-one (suc d) i h =
-    elim (ℕ-discrete i d) [
-      | yes p ↦ rw (← p, power-bit i i, eq-eqb i i refl, word-none i (has (2 ^ i)) (λ j l. power-bit i j ∙ ne-eqb i j (λ e. omega arith)))
-      | no p ↦ rw (power-bit i d, ne-eqb i d p, word-one d i (omega arith))
-    ]
-
-stands-vector : (d i : ℕ) → i < d → stands d (2 ^ i) ≡ i ∷ []
-unfolding stands
-stands-vector d i h = rw (ne-eqb (2 ^ i) 5 (power-not-five i), and-false (eqb d 3)) (word-one d i h)
-
-stands-scalar : (d : ℕ) → stands d 0 ≡ []
-unfolding stands
-stands-scalar d = rw (and-false (eqb d 3)) (word-none d (has 0) (λ j _. has-beyond 0 0 j (lit< tt) (omega arith)))
-
--- ---- the metric of basis vectors, by the relations
-
-metric-squared : (g : ℕ → ℤ) (d i : ℕ) → i < d → metric g d (2 ^ i) (2 ^ i) ≡ g i
-metric-squared g d i h = sym (metric-unique (2 ^ i) (2 ^ i) (rw (xor-self (2 ^ i), stands-vector d i h, stands-scalar d) (square i h)))
-
-metric-exchanged : (g : ℕ → ℤ) (d i j : ℕ) → i < d → j < d → i ≢ j → metric g d (2 ^ i) (2 ^ j) ≡ negℤ (metric g d (2 ^ j) (2 ^ i))
-metric-exchanged g d i j h l n =
-    sym (metric-unique (2 ^ i) (2 ^ j) (chain swapped (rw (xor-comm (2 ^ j) (2 ^ i)) at (metric-derived g d (2 ^ j) (2 ^ i)))))
-    ∙ neg-mul (pos 1) (metric g d (2 ^ j) (2 ^ i)) ∙ ap negℤ (one-mul (metric g d (2 ^ j) (2 ^ i)))
-  where
-    swapped : Equals g d (stands d (2 ^ i) ++ stands d (2 ^ j)) (negℤ (pos 1)) (stands d (2 ^ j) ++ stands d (2 ^ i))
-    swapped = rw (stands-vector d i h, stands-vector d j l) (exchange i j h l n)
 
 -- ---- the product
 

@@ -9,6 +9,7 @@ pub mod ConformedLaws
 pub mod AccuracyLaws
 pub mod GroupingLaws
 pub mod AlgebraLaws
+pub mod CliffordLaws
 pub mod CountingLaws
 pub mod ExactLaws
 pub mod ReversedLaws
