@@ -148,7 +148,7 @@ module _ (g : ℕ → ℤ) (d : ℕ) (order place : ℕ → ℕ) (inverse : Bije
   -- After the vectors of the mask a comes the vector n above them.
   word-step : (n a : ℕ) → n < d → a < 2 ^ n → value algebra (stands d a) ≡ blade a → value algebra (stands d (bitXor a (2 ^ n))) ≡ blade (bitXor a (2 ^ n))
   unfolding algebra
-  word-step n a l h below = unsigned (metric g d a (2 ^ n)) (metric-above g d n a h) _ _
+  word-step n a l h below = unsigned (metric g d a (2 ^ n)) (metric-above g d n a h) (value algebra (stands d (bitXor a (2 ^ n)))) (blade (bitXor a (2 ^ n)))
       (sym (stands-times algebra a (2 ^ n)) ∙ ap₂ (λ x y. x · y) below (word-vector n l) ∙ blades-times a (2 ^ n) (omega (arith, pow-lt l)) (pow-lt l))
 
   word-blade : (n : ℕ) → n ≤ d → (m : ℕ) → m < 2 ^ n → value algebra (stands d m) ≡ blade m
