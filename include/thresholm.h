@@ -10,9 +10,9 @@
  * and 2 equal zero.
  *
  * Parameters. A slice is a pointer and the count of its elements, as a and a_len. An output is written from the
- * front; what is past the result stays as it was. A parameter to_... points to one number, which is told a part of
- * the answer. A shape is told as the rig sheet has it: kind 0, 1 or 2, and p, n, z zero unless kind is 2. Of two
- * values, _right marks the right one's.
+ * front; what is past the result stays as it was. A parameter to_... points to one number, in which the call reports
+ * a part of the answer. A shape is reported as the rig sheet has it: kind 0, 1 or 2, and p, n, z zero unless kind is
+ * 2. Of two values, _right marks the right one's.
  *
  * Refusals. Every input is answered. Under each call stands what it is refused for, 'number: condition', in the order
  * of the tests: the number of the first condition that holds is returned, and 0 where none does. A refused call
@@ -26,8 +26,9 @@
  * Pointers. None may be null, also where the length is 0; each must be aligned, and valid for its length. Inputs may
  * overlap one another. An output, or a number that a to_... points to, may overlap nothing that the call is given.
  *
- * Numbers. Results are determined bit for bit, but for a NaN's payload and sign, where the floating point environment
- * is the default one: round to nearest, subnormal numbers kept (no flush to zero).
+ * Numbers. Results are determined bit for bit where the floating point environment is the default one: round to
+ * nearest, subnormal numbers kept (no flush to zero). The payload and sign of a NaN that arithmetic makes are the
+ * processor's; calls that copy or negate numbers keep a NaN's payload, and its sign but where they negate it.
  */
 #ifndef THRESHOLM_H
 #define THRESHOLM_H
@@ -78,12 +79,12 @@ uint8_t thresholm_value_refusal(uint8_t dims, size_t count);
 uint8_t thresholm_pair_refusal(uint8_t dims, uint8_t other, uint8_t result, size_t count, size_t count_right,
     size_t room);
 
-/* The answer of a call that is refused: returns number, and tells nothing. Where it is 0, which refuses nothing,
- * shape 0 Vanilla is told. */
+/* The answer of a call that is refused: returns number, and reports nothing. Where it is 0, which refuses nothing, it
+ * reports shape 0 Vanilla. */
 uint8_t thresholm_refused(uint8_t number,
     uint8_t *to_dims, uint8_t *to_kind, uint8_t *to_p, uint8_t *to_n, uint8_t *to_z);
 
-/* The answer of a call that is done: tells the shape, whatever its dimensions, and returns 0. Never refused. */
+/* The answer of a call that is done: reports the shape, whatever its dimensions, and returns 0. Never refused. */
 uint8_t thresholm_done(uint8_t dims, uint8_t kind, uint8_t p, uint8_t n, uint8_t z,
     uint8_t *to_dims, uint8_t *to_kind, uint8_t *to_p, uint8_t *to_n, uint8_t *to_z);
 
@@ -110,8 +111,8 @@ uint8_t thresholm_promotion(uint8_t kind, uint8_t p, uint8_t n, uint8_t z,
 uint8_t thresholm_try_from_str(const uint8_t *t, size_t t_len,
     uint8_t *to_kind, uint8_t *to_p, uint8_t *to_n, uint8_t *to_z);
 
-/* The text of a flavor: VGA, PGA, Cl3, Cl 3 1, Cl 3 1 1, the shortest with zeros dropped from the end. to_count is
- * told its bytes, at most 14; no zero byte follows. out: as many.
+/* The text of a flavor: VGA, PGA, Cl3, Cl 3 1, Cl 3 1 1, the shortest with zeros dropped from the end. to_count
+ * gets its bytes, at most 14; no zero byte follows. out: as many.
  * 3: out_len below that. */
 uint8_t thresholm_write_to(uint8_t kind, uint8_t p, uint8_t n, uint8_t z, uint8_t *out, size_t out_len,
     size_t *to_count);
@@ -125,15 +126,15 @@ size_t thresholm_blade_count(uint8_t dims);
  * 1: dims above 9. */
 uint8_t thresholm_grade_size(uint8_t dims, uint8_t grade, size_t *to_count);
 
-/* The order and its inverse: masks[i] is the mask at place i, places[m] the place of mask m. to_count is told their
- * number, 2^dims; dims above 9 are taken for 0. masks and places: as many.
- * 3: masks_len or places_len below that. */
+/* The order and its inverse: masks[i] is the mask at place i, places[m] the place of mask m. to_count gets their
+ * number, 2^dims. masks and places: as many.
+ * 1: dims above 9. 3: masks_len or places_len below 2^dims. */
 uint8_t thresholm_order_of(uint8_t dims, uint16_t *masks, size_t masks_len, uint16_t *places, size_t places_len,
     size_t *to_count);
 
 /* ---- Shapes and their changes. */
 
-/* A shape made anew, as shapes are told. Never refused, whatever its dimensions. */
+/* A shape made anew, as shapes are reported. Never refused, whatever its dimensions. */
 void thresholm_shape_of(uint8_t dims, uint8_t kind, uint8_t p, uint8_t n, uint8_t z,
     uint8_t *to_dims, uint8_t *to_kind, uint8_t *to_p, uint8_t *to_n, uint8_t *to_z);
 
@@ -243,8 +244,8 @@ uint8_t thresholm_blades_right(uint8_t dims, const double *v, size_t v_len,
     uint8_t kind, uint8_t p, uint8_t n, uint8_t z, double *out, size_t out_len,
     uint8_t *to_dims, uint8_t *to_kind, uint8_t *to_p, uint8_t *to_n, uint8_t *to_z);
 
-/* ---- Some numbers of a value, by mask, in the order of masks: +0 for a mask outside, no sign adjusted. to_count is
- * told how many. */
+/* ---- Some numbers of a value, by mask, in the order of masks: +0 for a mask outside, no sign adjusted. to_count
+ * gets how many. */
 
 /* All blades at d dimensions. out: 2^d.
  * 1: dims or d above 9. 2: a_len not 2^dims. 3: out_len below 2^d. */
@@ -281,7 +282,7 @@ uint8_t thresholm_unpack_vector(uint8_t dims, uint8_t kind, uint8_t p, uint8_t n
  * (metric x a) x b at the place of a xor b. Metric: -1 to the number of index pairs i in a, j in b with j < i, times
  * the flavor metrics of shared bits; at 3 dimensions one more sign change for each of a, b and a xor b that is 101.
  * Then snap: where the fraction of the size is below 1e-14, or 1 less it is, the nearest whole number replaces it,
- * sign kept. Where flavors still differ, the left one's metric is used, and its flavor kept. to_pairs is told the
+ * sign kept. Where flavors still differ, the left one's metric is used, and its flavor kept. to_pairs gets the
  * number of contributing pairs. */
 
 /* The general product: all pairs. out: 2^result.
@@ -435,21 +436,21 @@ uint8_t thresholm_make_scalar_only(uint8_t dims, uint8_t kind, uint8_t p, uint8_
 uint8_t thresholm_squared_magnitude(uint8_t dims, uint8_t kind, uint8_t p, uint8_t n, uint8_t z,
     const double *a, size_t a_len, double *to_value);
 
-/* The value with +0 at place 0; to_value is told the number that was there. out: 2^dims.
+/* The value with +0 at place 0; to_value gets the number that was there. out: 2^dims.
  * 1: dims above 9. 2: a_len not 2^dims. 3: out_len below 2^dims. */
 uint8_t thresholm_take_scalar(uint8_t dims, uint8_t kind, uint8_t p, uint8_t n, uint8_t z,
     const double *a, size_t a_len, double *out, size_t out_len,
     uint8_t *to_dims, uint8_t *to_kind, uint8_t *to_p, uint8_t *to_n, uint8_t *to_z, double *to_value);
 
-/* to_test is told 0 for a scalar value, 1 for a planar one and 2 for neither, scalar tried first. to_re and to_im are
- * told the scalar's number and +0, the planar value's places 0 and 3, or +0 twice.
+/* to_test gets 0 for a scalar value, 1 for a planar one and 2 for neither, scalar tried first. to_re and to_im get the
+ * scalar's number and +0, the planar value's places 0 and 3, or +0 twice.
  * 1: dims above 9. 2: a_len not 2^dims. */
 uint8_t thresholm_scalar_test(uint8_t dims, uint8_t kind, uint8_t p, uint8_t n, uint8_t z,
     const double *a, size_t a_len, uint8_t *to_test, double *to_re, double *to_im);
 
-/* ---- Equality and order, as the Rust has them. Neither looks at the flavors. */
+/* ---- Equality and order, as the workstation has them. Neither looks at the flavors. */
 
-/* ==, told as 1 or 0: it holds where both are scalar with equal numbers, or neither is scalar, so any two values that
+/* ==, as 1 or 0: it holds where both are scalar with equal numbers, or neither is scalar, so any two values that
  * are not scalar are equal; otherwise where counts and places are the same, NaN equal to NaN.
  * 1: dims or dims_right above 9. 2: a_len not 2^dims or b_len not 2^dims_right. */
 uint8_t thresholm_eq(uint8_t dims, uint8_t kind, uint8_t p, uint8_t n, uint8_t z,
@@ -465,10 +466,10 @@ uint8_t thresholm_cmp(uint8_t dims, uint8_t kind, uint8_t p, uint8_t n, uint8_t 
 
 /* ---- The rig sheet: little-endian, sections in order, each after its count: u16 shapes (at most 64; each five
  * bytes: dims, kind 0, 1 or 2, then p, n, z, zero unless kind 2), u32 coefficients (at most 4,096, eight bytes each),
- * in shape order. The second count is the sum of the 2^dims. Nothing follows. Coefficients are lent as their bit
+ * in shape order. The second count is the sum of the 2^dims. Nothing follows. Coefficients are passed as their bit
  * patterns, so that a NaN's bits are kept. A list of shapes is a slice of bytes, five to a shape. */
 
-/* Reads a sheet. Its patterns go to out; to_count is told how many, to_shapes how many shapes it has. The shapes
+/* Reads a sheet. Its patterns go to out; to_count gets how many, to_shapes how many shapes it has. The shapes
  * stand in bytes itself, from byte 2 on, ready for thresholm_value_at and thresholm_write. out: the count of
  * coefficients; THRESHOLM_MAX_COEFFICIENTS is enough.
  * 9: the sheet is malformed; a dimension above 9 and a count over its limit are that too. 3: out_len below the count
@@ -476,17 +477,17 @@ uint8_t thresholm_cmp(uint8_t dims, uint8_t kind, uint8_t p, uint8_t n, uint8_t 
 uint8_t thresholm_read(const uint8_t *bytes, size_t bytes_len, uint64_t *out, size_t out_len, size_t *to_shapes,
     size_t *to_count);
 
-/* Writes a sheet: to_count is told its bytes, 6 and five for each shape and eight for each pattern. out: as many, at
- * most 33,094.
- * 1: one of the first 64 shapes has dimensions above 9. 2: shapes_len is no multiple of 5, there are more than 64
- * shapes or 4,096 patterns, or patterns_len not the sum of the 2^dims. 3: out_len below the bytes. */
+/* Writes a sheet: to_count gets its bytes, 6 and five for each shape and eight for each pattern. out: as many, at most
+ * 33,094.
+ * 1: a listed shape has dimensions above 9. 2: shapes_len is not a multiple of 5, there are more than 64 shapes or
+ * 4,096 patterns, or patterns_len not the sum of the 2^dims. 3: out_len below the bytes. */
 uint8_t thresholm_write(const uint8_t *shapes, size_t shapes_len, const uint64_t *patterns, size_t patterns_len,
     uint8_t *out, size_t out_len, size_t *to_count);
 
 /* The shape of the value at an index of a sheet, 0 being the first, and the place among the patterns at which its own
  * 2^dims start.
- * 1: one of the first 64 shapes has dimensions above 9. 2: shapes_len is no multiple of 5, or index not below the
- * number of shapes, or not below 64. */
+ * 1: a listed shape has dimensions above 9, at every index. 2: shapes_len is not a multiple of 5, or index not below
+ * the number of shapes, or not below 64. */
 uint8_t thresholm_value_at(const uint8_t *shapes, size_t shapes_len, size_t index,
     uint8_t *to_dims, uint8_t *to_kind, uint8_t *to_p, uint8_t *to_n, uint8_t *to_z, size_t *to_start);
 

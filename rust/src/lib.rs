@@ -6,7 +6,7 @@
 //! - [`Multivector`]: a value, with its [`Shape`] (dimensions 0 to 9 and a [`Flavor`]) and its 2^d numbers.
 //! - [`Sheet`]: the rig sheet, values as bytes, in which even the bits of a NaN are kept.
 //! - [`Error`]: why a call was refused, one variant for each refusal number.
-//! - [`lent`]: the same calls on lent slices, for callers that own their memory.
+//! - [`lent`]: the same calls on the caller's slices, for callers that own their memory.
 //!
 //! ```
 //! use thresholm::{Flavor, Multivector};

@@ -127,7 +127,7 @@ impl Multivector {
         Ok((value, Multivector { shape: right, numbers: out_right }))
     }
 
-    /// What a call gives that keeps the shape and that no value can be refused by. Were it refused, the NaN that is lent would stay.
+    /// What a call gives that keeps the shape and that no value can be refused by. Were it refused, the NaNs of the output would stay.
     pub(crate) fn kept(&self, call: impl FnOnce(Shape, &[f64], &mut [f64]) -> Result<Shape, Error>) -> Multivector {
         let mut numbers = vec![f64::NAN; self.numbers.len()];
         let shape = call(self.shape, &self.numbers, &mut numbers).unwrap_or(self.shape);

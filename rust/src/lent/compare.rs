@@ -1,10 +1,10 @@
-//! Equality and order, as the Rust has them.
+//! Equality and order, as the workstation has them.
 use crate::error::Error;
 use crate::shape::Shape;
 use crate::sys;
 use std::cmp::Ordering;
 
-/// The Rust's `==`: any two values that are not scalar are equal.
+/// The workstation's `==`: any two values that are not scalar are equal.
 #[rustfmt::skip]
 pub fn eq(shape: Shape, right: Shape, a: &[f64], b: &[f64]) -> Result<bool, Error> {
     let [dims, kind, p, n, z] = shape.to_bytes();
@@ -20,7 +20,7 @@ pub fn eq(shape: Shape, right: Shape, a: &[f64], b: &[f64]) -> Result<bool, Erro
     Error::told(number, yes != 0)
 }
 
-/// The Rust's order. It is no order in the strict sense: it is not transitive.
+/// The workstation's order. It is no order in the strict sense: it is not transitive.
 #[rustfmt::skip]
 pub fn cmp(shape: Shape, right: Shape, a: &[f64], b: &[f64]) -> Result<Ordering, Error> {
     let [dims, kind, p, n, z] = shape.to_bytes();

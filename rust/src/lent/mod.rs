@@ -1,5 +1,5 @@
-//! The calls on lent slices: what the C face has, made safe, and nothing more. Nothing is allocated; results go from the front of the lent
-//! output, whose numbers past the result stay as they were, and a refused call writes nothing.
+//! The calls on the caller's slices: what the C face has, made safe, and nothing more. Nothing is allocated; results go from the front of the
+//! caller's output, whose numbers past the result stay as they were, and a refused call writes nothing.
 //!
 //! A value is a [`Shape`] and a slice of exactly 2^d numbers. A result's shape is handed back, and its 2^d numbers stand in the
 //! output. [`Multivector`](crate::Multivector) does the same with numbers of its own.
@@ -53,28 +53,28 @@ use crate::error::Error;
 use crate::flavor::Flavor;
 use crate::shape::Shape;
 
-/// Lends five numbers to a call that tells a shape in them.
+/// Hands five numbers to a call that reports a shape in them.
 fn tell_shape(call: impl FnOnce([*mut u8; 5]) -> u8) -> Result<Shape, Error> {
     let mut to = [0; 5];
     let number = call(to.each_mut().map(std::ptr::from_mut));
     Error::told(number, Shape::from_bytes(to))
 }
 
-/// Lends four numbers to a call that tells a flavor in them.
+/// Hands four numbers to a call that reports a flavor in them.
 fn tell_flavor(call: impl FnOnce([*mut u8; 4]) -> u8) -> Result<Flavor, Error> {
     let mut to = [0; 4];
     let number = call(to.each_mut().map(std::ptr::from_mut));
     Error::told(number, Flavor::from_bytes(to))
 }
 
-/// Lends a count to a call that tells one.
+/// Hands a count to a call that reports one.
 fn tell_count(call: impl FnOnce(*mut usize) -> u8) -> Result<usize, Error> {
     let mut count = 0;
     let number = call(&mut count);
     Error::told(number, count)
 }
 
-/// Lends a number to a call that tells one.
+/// Hands a number to a call that reports one.
 fn tell_number(call: impl FnOnce(*mut f64) -> u8) -> Result<f64, Error> {
     let mut value = 0.0;
     let number = call(&mut value);

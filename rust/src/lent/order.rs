@@ -16,7 +16,7 @@ pub fn grade_size(dims: u8, grade: u8) -> Result<usize, Error> {
     tell_count(|to_count| unsafe { sys::thresholm_grade_size(dims, grade, to_count) })
 }
 
-/// The order of `dims` dimensions and the place of each mask in it, that of no dimensions where they are above 9, and how many masks there are.
+/// The order of `dims` dimensions and the place of each mask in it, and how many masks there are.
 #[rustfmt::skip]
 pub fn order_of(dims: u8, masks: &mut [u16], places: &mut [u16]) -> Result<usize, Error> {
     // SAFETY: every pointer is of something that is borrowed for the call; see the module.

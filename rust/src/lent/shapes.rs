@@ -5,7 +5,7 @@ use crate::flavor::Flavor;
 use crate::shape::Shape;
 use crate::sys;
 
-/// Lends five numbers to a call that tells a shape in them and is never refused.
+/// Hands five numbers to a call that reports a shape in them and is never refused.
 fn tell_always(call: impl FnOnce([*mut u8; 5])) -> Shape {
     let mut to = [0; 5];
     call(to.each_mut().map(std::ptr::from_mut));

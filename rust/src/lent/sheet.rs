@@ -4,7 +4,7 @@ use crate::error::Error;
 use crate::shape::Shape;
 use crate::sys;
 
-/// Reads the sheet that bytes are: its patterns go to the output, and it tells how many shapes and patterns there are. The shapes stand in
+/// Reads the sheet that bytes are: its patterns go to the output, and it returns how many shapes and patterns there are. The shapes stand in
 /// the bytes themselves, from byte 2 on.
 #[rustfmt::skip]
 pub fn read(bytes: &[u8], out: &mut [u64]) -> Result<(usize, usize), Error> {
@@ -16,7 +16,7 @@ pub fn read(bytes: &[u8], out: &mut [u64]) -> Result<(usize, usize), Error> {
     Error::told(number, (shapes, count))
 }
 
-/// Writes the bytes of a sheet, and tells how many there are.
+/// Writes the bytes of a sheet, and returns how many there are.
 #[rustfmt::skip]
 pub fn write(shapes: &[u8], patterns: &[u64], out: &mut [u8]) -> Result<usize, Error> {
     // SAFETY: every pointer is of something that is borrowed for the call; see the module.

@@ -1,4 +1,4 @@
-//! `thresholm import`: what is read, and where faults are told.
+//! `thresholm import`: what is read, and where faults are reported.
 use crate::support::{file, folder, run};
 use std::fs;
 use std::path::Path;

@@ -36,7 +36,7 @@ fn help_says_what_is_proved_and_what_turns() {
         "{product}"
     );
     let check = run(&["help", "check"]).done().replace('\n', " ");
-    assert!(check.contains("a number of several bytes, which is told by the byte at which it starts"), "{check}");
+    assert!(check.contains("a number of several bytes, reported by the byte at which it starts"), "{check}");
 }
 
 #[test]
@@ -165,7 +165,7 @@ fn a_full_disk_is_told() {
     let run = told(&command().arg("help").stdout(full()).output().expect("the command runs"));
     assert_eq!(run.status, 1);
     assert!(run.err.starts_with("thresholm: standard output cannot be written: "), "{}", run.err);
-    // With nowhere to say why, the exit status still tells.
+    // With nowhere to say why, the exit status still says so.
     let status = command().arg("mix").stderr(full()).status().expect("the command runs");
     assert_eq!(status.code(), Some(2));
 }

@@ -60,17 +60,17 @@ fn walk(bytes: &[u8]) -> Result<(), Wrong> {
         needed += shape(bytes, value)?;
     }
     let at = 2 + SHAPE_BYTES * values;
-    let told = number(part(bytes, at, 4, "the count of coefficients")?);
-    if told > MAX_PATTERNS {
-        return wrong_number(at, format!("the count of coefficients is {told}; a sheet has at most {MAX_PATTERNS}"));
+    let stated = number(part(bytes, at, 4, "the count of coefficients")?);
+    if stated > MAX_PATTERNS {
+        return wrong_number(at, format!("the count of coefficients is {stated}; a sheet has at most {MAX_PATTERNS}"));
     }
-    if told != needed {
-        return wrong_number(at, format!("the count of coefficients is {told}; the values have {needed}"));
+    if stated != needed {
+        return wrong_number(at, format!("the count of coefficients is {stated}; the values have {needed}"));
     }
-    coefficients(bytes, at + 4, told)
+    coefficients(bytes, at + 4, stated)
 }
 
-/// The five bytes of one value's shape; tells how many coefficients it has.
+/// The five bytes of one value's shape; gives how many coefficients it has.
 fn shape(bytes: &[u8], value: usize) -> Result<usize, Wrong> {
     let at = 2 + SHAPE_BYTES * value;
     let of = format!("of value {value}");

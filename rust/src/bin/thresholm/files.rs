@@ -16,7 +16,7 @@ pub fn bytes_of(path: &Path, most: usize) -> Result<Vec<u8>, Stop> {
     }
 }
 
-/// A file's rig sheet. Where the library's reader refuses it, the first that is wrong is told.
+/// A file's rig sheet. Where the library's reader refuses it, the first that is wrong is reported.
 pub fn sheet_of(path: &Path) -> Result<Sheet, Stop> {
     let bytes = bytes_of(path, MOST_BYTES)?;
     Sheet::from_bytes(&bytes).map_err(|error| match first_wrong(&bytes) {
@@ -60,7 +60,7 @@ fn replace(path: &Path, bytes: &[u8]) -> io::Result<()> {
         .and_then(|()| file.sync_all())
         .and_then(|()| fs::rename(&beside, path));
     if written.is_err() {
-        // The failure above is what is told; a file that cannot be removed either stays.
+        // The failure above is what is reported; a file that cannot be removed either stays.
         let _ = fs::remove_file(&beside);
     }
     written

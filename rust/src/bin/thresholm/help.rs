@@ -92,7 +92,7 @@ come the value's numbers, on as many lines as you like:
 - A number is written with a point, as -1.5, 1200 or 2.5e-3; inf, -inf and nan are allowed; 0x and
   16 digits give a number's bits.
 
-A fault is told with its line and column, both counted from 1:
+A fault is reported with its line and column, both counted from 1:
 room.txt:12:9: this is no number: '1,5' (use a point)
 ";
 
@@ -111,8 +111,8 @@ const CHECK: &str = "\
 thresholm check RIG
 
 Says that a rig sheet is valid, with its counts, or what is the first that cannot stand, and why: a
-byte, or a number of several bytes, which is told by the byte at which it starts. Bytes are counted
-from 0. The proved reader decides whether a sheet is valid; the reason explains it.
+byte, or a number of several bytes, reported by the byte at which it starts. Bytes are counted from
+0. The proved reader decides whether a sheet is valid; the reason explains it.
 
 A sheet is, the lowest byte of each number first:
 - 2 bytes: the count of values, at most 64;

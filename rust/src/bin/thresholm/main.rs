@@ -26,7 +26,7 @@ fn main() -> ExitCode {
     match told.and_then(|text| print(&text)) {
         Ok(()) => ExitCode::SUCCESS,
         Err(stop) => {
-            // Where standard error is closed, the exit status alone tells.
+            // Where standard error is closed, the exit status alone says so.
             let _ = writeln!(io::stderr(), "{}", stop.message());
             stop.status()
         }

@@ -61,7 +61,7 @@ impl Whole {
         self.trim();
     }
 
-    /// Divides by m, which is not 0, downward; tells the remainder.
+    /// Divides by m, which is not 0, downward; returns the remainder.
     fn divide(&mut self, m: u64) -> u64 {
         let mut rest = 0;
         for word in self.0.iter_mut().rev() {
@@ -73,7 +73,7 @@ impl Whole {
         rest as u64
     }
 
-    /// Divides by 2^count, downward; tells whether something was lost.
+    /// Divides by 2^count, downward; returns whether something was lost.
     fn halve(&mut self, count: usize) -> bool {
         let (words, bits) = ((count / 64).min(self.0.len()), count % 64);
         let lost = self.0.drain(..words).any(|word| word != 0);
