@@ -1,4 +1,4 @@
-//! Printing, as the workstation prints. The texts are those of the Rust's own `Display`.
+//! Printing, as the workstation prints. The texts are those of the reference's own `Display`.
 use thresholm::{Flavor, Multivector, Shape};
 
 const V: Flavor = Flavor::Vanilla;
