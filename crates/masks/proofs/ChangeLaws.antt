@@ -12,12 +12,11 @@ use lib.ListN.{length, take}
 use Rattle.masks.specs.declared.flavor.Flavor.{Flavor}
 use Rattle.masks.specs.declared.flavor.Flavor.the-variants.{Vanilla, Projective, Cl}
 use Rattle.masks.specs.declared.shape.Shape.{Shape}
-use Rattle.masks.specs.Order.{bladeCount}
 use Rattle.masks.specs.Outcome.{Test, refusal, tooMany, wrongCount, noRoom, unless, laid, Outcome, shapeOf, refusedValue, value, Pair, refusedPair}
 use Rattle.masks.specs.Shape.{withDims, resized, setDims, promotes, promoted, setFlavor, conformed, promotedFlavor, conformedShape, conform}
 use Rattle.masks.proofs.ListLaws.{take-laid}
 use Rattle.masks.proofs.RefusalLaws.{past, Taken, taken, later-same, needed-same, unless-done}
-use Rattle.masks.proofs.ShapeLaws.{count-small, one, resized-length, resized-same, resized-back, promoted-length}
+use Rattle.masks.proofs.ShapeLaws.{one, resized-length, resized-same, resized-back, promoted-length}
 
 -- ---- conforming
 
@@ -70,8 +69,8 @@ passes d n count room needed t =
     simp (le-ltb 9 d (t .small), le-ltb 9 n (t .result), eq-eqb count (2 ^ d) (t .counted), le-ltb room needed (t .roomy))
 
 -- the code's number is the definition's
-pub checked : (k d n count room needed : ℕ) → k ≡ refusal (checks d n count room needed) → needed ≡ bladeCount n → k ≡ refusal (checks d n count room (2 ^ n))
-checked k d n count room needed e b = e ∙ needed-same d n count room needed (2 ^ n) (λ h. b ∙ count-small n h)
+pub checked : (k d n count room needed : ℕ) → k ≡ refusal (checks d n count room needed) → (n ≤ 9 → needed ≡ 2 ^ n) → k ≡ refusal (checks d n count room (2 ^ n))
+checked k d n count room needed e b = e ∙ needed-same d n count room needed (2 ^ n) b
 
 -- Where the given dimensions are refused, the resulting ones do not count.
 pub checks-same : (d n m count room : ℕ) → (d ≤ 9 → n ≡ m) → refusal (checks d n count room (2 ^ n)) ≡ refusal (checks d m count room (2 ^ m))

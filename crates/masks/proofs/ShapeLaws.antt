@@ -13,26 +13,11 @@ use lib.Ieee.{Float, nan, inf, fin, neg}
 use lib.ListN.{length, getD, take, drop, length-drop, length-map}
 use lib.Pow.{pow-mono}
 use lib.Seq.{length-take-le, getD-take, getD-drop, ext-getD}
-use Rattle.masks.specs.declared.order.Order.{Order}
-use Rattle.masks.specs.Order.{order, place, masksOf, placesOf, orderFor, taken, bladeCount}
+use Rattle.masks.specs.Order.{order, place, masksOf}
 use Rattle.masks.specs.Outcome.{laid, nought}
 use Rattle.masks.specs.Shape.{coef, negatedIf, moved, turnedMask, resized, lowered, promoted}
 use Rattle.masks.proofs.ListLaws.{split, getD-map, take-laid}
 use Rattle.masks.proofs.OrderLaws.{length-order, order-at, order-place, place-lt, blades-le, take-masks}
-
--- ---- dimensions that are not refused
-
-pub taken-small : (d : ℕ) → d ≤ 9 → taken d ≡ d
-taken-small d h = rw (le-ltb 9 d h)
-
-pub count-small : (d : ℕ) → d ≤ 9 → bladeCount d ≡ 2 ^ d
-count-small d h = rw (le-ltb 9 d h)
-
-pub holds-masks : (o : Order) (d : ℕ) → d ≤ 9 → o ≡ orderFor (taken d) → o .masks ≡ masksOf d
-holds-masks o d h e = ap (λ (x : Order). x .masks) e ∙ ap masksOf (taken-small d h)
-
-pub holds-places : (o : Order) (d : ℕ) → d ≤ 9 → o ≡ orderFor (taken d) → o .places ≡ placesOf d
-holds-places o d h e = ap (λ (x : Order). x .places) e ∙ ap placesOf (taken-small d h)
 
 -- ---- a part of a list, mapped
 

@@ -18,16 +18,16 @@ use Rattle.masks.specs.declared.shape.Shape.{Shape}
 use Rattle.masks.specs.declared.flavor.Flavor.{Flavor}
 use Rattle.masks.specs.declared.flavor.Flavor.the-variants.{Vanilla}
 use Rattle.masks.specs.declared.build.Packing.the-variants.{Grade}
-use Rattle.masks.specs.Order.{order, size, start, rank, place, held, masksOf, orderFor, taken}
+use Rattle.masks.specs.Order.{order, size, start, rank, place, held, masksOf, orderFor}
 use Rattle.masks.specs.Outcome.{Outcome, shapeOf, refusal, unless, laid, refusedList, listed, countOf, nought}
 use Rattle.masks.specs.Flavor.{addedDims}
 use Rattle.masks.specs.Shape.{coef, moved}
 use Rattle.masks.specs.Blade.{getBlade, gradeRefusal, gradePart}
 use Rattle.masks.specs.Build.{padded, atGrade, oneGrade, vector, n1Blades, scalar, pseudoscalar, packing, ofParity, spread, bladesOfSide}
 use Rattle.masks.specs.Unpack.{choose, halfMasks, unpackRefusal, unpackAll, halfOf, unpackHalf, unpackOwnHalf, unpackVector}
-use Rattle.masks.proofs.OrderLaws.{length-order, size-zero, grade-has, place-lt, order-place, order-at, blades-le, take-masks}
+use Rattle.masks.proofs.OrderLaws.{length-order, size-zero, grade-has, place-lt, order-place, order-at, blades-le, take-masks, built-masks}
 use Rattle.masks.proofs.RefusalLaws.{unless-done}
-use Rattle.masks.proofs.ShapeLaws.{holds-masks, coef-inside, coef-outside, moved-other, ordered}
+use Rattle.masks.proofs.ShapeLaws.{coef-inside, coef-outside, moved-other, ordered}
 use Rattle.masks.proofs.ChangeLaws.{passes}
 use Rattle.masks.proofs.BladeLaws.{get-blade-done}
 use Rattle.masks.proofs.BuildLaws.{padded-at, lt-blades, start-one, size-one, size-last, size-before-last, grade-fits, vector-fits, length-grade-set, choose-has, choose-lacks, choose-le, choose-next, choose-skip, half-count, half-twice, half-some, length-half-set, spread-has, spread-lacks, Packs, packing-fits, one-built, n1-one, full-built, half-built, grade-built}
@@ -149,8 +149,8 @@ module _ (turned dims : ℕ) (a : List Float) (t : 512 ≤ turned) where
 
 -- ---- what the code holds and answers
 
-pub held-order : (o : Order) (d n : ℕ) → d ≤ 9 → o ≡ orderFor (taken d) → n ≡ 2 ^ d → take n (o .masks) ≡ order d
-held-order o d n h e q = rw (q, holds-masks o d h e) (take-masks d)
+pub held-order : (o : Order) (d n : ℕ) → o ≡ orderFor d → n ≡ 2 ^ d → take n (o .masks) ≡ order d
+held-order o d n e q = rw (q, built-masks e) (take-masks d)
 
 pub counts : (n : ℕ) (f : ℕ → Float) (ms : List ℕ) → n ≡ length ms → _≡_ {A = Count} (record { number = 0; count = n }) (countOf (listed (map f ms)))
 counts n f ms e = rw (length-map ms f, e)

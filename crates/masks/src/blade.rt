@@ -2,10 +2,9 @@
 use super::gather::coefficient;
 use super::gather::copy_all;
 use super::gather::resize;
-use super::order::blade_count;
 use super::order::blades;
-use super::order::order_of;
 use super::order::size_of;
+use super::order::sorted_order;
 use super::order::start_of;
 use super::outcome::Answer;
 use super::outcome::DONE;
@@ -35,7 +34,7 @@ fn dims_for(dims: u8, mask: usize) -> u8
     ensures { λ r. ⌜ r ≡ bladeDims (9 - dims) dims mask ⌝ }
 {
     let mut n = dims;
-    while blade_count(n) <= mask {
+    while blades(n) <= mask {
         n += 1;
     }
     n
@@ -51,10 +50,10 @@ fn set_blade_refusal(dims: u8, mask: usize, count: usize, room: usize) -> u8
     if 512 <= mask {
         return TOO_MANY_DIMS;
     }
-    if count != blade_count(dims) {
+    if count != blades(dims) {
         return WRONG_COUNT;
     }
-    if room < blade_count(dims_for(dims, mask)) {
+    if room < blades(dims_for(dims, mask)) {
         return NO_ROOM;
     }
     DONE
@@ -83,7 +82,7 @@ impl Shape {
                 value: 0.0,
             };
         }
-        let o = order_of(dims);
+        let o = sorted_order(dims);
         Real {
             number: DONE,
             value: coefficient(dims, &o.places, a, mask),
@@ -99,12 +98,12 @@ impl Shape {
         if no != DONE {
             return refused(no);
         }
-        let o = order_of(dims);
+        let o = sorted_order(dims);
         if mask < blades(dims) {
             put_blade(dims, &o.places, mask, x, a, out);
             return done(self);
         }
-        let next = order_of(dims + 1);
+        let next = sorted_order(dims + 1);
         let mut held = [0.0; 512];
         resize(dims, dims + 1, &next.masks, &o.places, a, &mut held);
         let count = blades(dims + 1);

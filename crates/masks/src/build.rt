@@ -1,10 +1,9 @@
 // Building values from few numbers.
 use super::flavor::Flavor;
 use super::gather::copy_all;
-use super::order::blade_count;
 use super::order::blades;
-use super::order::order_of;
 use super::order::size_of;
+use super::order::sorted_order;
 use super::order::start_of;
 use super::outcome::Answer;
 use super::outcome::DONE;
@@ -73,7 +72,7 @@ fn built_refusal(dims: usize, room: usize) -> u8
     if (MAX_DIMS as usize) < dims {
         return TOO_MANY_DIMS;
     }
-    if room < blade_count(dims as u8) {
+    if room < blades(dims as u8) {
         return NO_ROOM;
     }
     DONE
@@ -195,7 +194,7 @@ fn fill_half(odd: u32, dims: u8, v: &[f64], out: &mut [f64])
     requires { ⌜ (odd ≤ 1) × (dims ≤ 9) × (2 * length (now v) ≡ 2 ^ dims) × (2 ^ dims ≤ length (now out)) ⌝ }
     ensures { λ _. ⌜ now (out .exit) ≡ laid (spread odd (order dims) (now (v .entry))) (now (out .entry)) ⌝ }
 {
-    let o = order_of(dims);
+    let o = sorted_order(dims);
     spread_over(odd, blades(dims), &o.masks, v, out);
 }
 

@@ -1,6 +1,6 @@
 // Coefficients read by mask and written from the front of an output: what changes of shape and unpacking share.
 use super::order::blades;
-use super::order::order_of;
+use super::order::sorted_order;
 use super::order::zeros;
 ghost use mathlib.Core.Path.{_≡_};
 ghost use mathlib.Core.List.{map};
@@ -165,7 +165,7 @@ pub(crate) fn conform_by<'o>(
         promote(dims, masks, places, a, out);
         return;
     }
-    let next = order_of(dims + 1);
+    let next = sorted_order(dims + 1);
     let mut held = [0.0; 512];
     promote(dims, &next.masks, places, a, &mut held);
     let count = blades(dims + 1);
@@ -182,7 +182,7 @@ pub(crate) fn conform_one(up: u8, dims: u8, new_dims: u8, a: &[f64], out: &mut [
         copy_all(a, out);
         return;
     }
-    let from = order_of(dims);
-    let to = order_of(new_dims);
+    let from = sorted_order(dims);
+    let to = sorted_order(new_dims);
     conform_by(up, dims, new_dims, &to.masks, &from.places, a, out);
 }

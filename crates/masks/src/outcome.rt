@@ -1,6 +1,6 @@
 // What calls answer, the refusal numbers, and the tests that lead to them.
 use super::flavor::Flavor;
-use super::order::blade_count;
+use super::order::blades;
 use super::shape::Shape;
 ghost use mathlib.Core.Path.{_≡_};
 ghost use mathlib.Core.List.{[], _∷_};
@@ -104,7 +104,7 @@ pub fn refusal_of(dims: u8, result: u8, count: usize, room: usize, needed: usize
     if MAX_DIMS < result {
         return TOO_MANY_DIMS;
     }
-    if count != blade_count(dims) {
+    if count != blades(dims) {
         return WRONG_COUNT;
     }
     if room < needed {
@@ -120,7 +120,7 @@ pub fn value_refusal(dims: u8, count: usize) -> u8
     if MAX_DIMS < dims {
         return TOO_MANY_DIMS;
     }
-    if count != blade_count(dims) {
+    if count != blades(dims) {
         return WRONG_COUNT;
     }
     DONE
@@ -146,13 +146,13 @@ pub fn pair_refusal(
     if MAX_DIMS < result {
         return TOO_MANY_DIMS;
     }
-    if count != blade_count(dims) {
+    if count != blades(dims) {
         return WRONG_COUNT;
     }
-    if count_right != blade_count(other) {
+    if count_right != blades(other) {
         return WRONG_COUNT;
     }
-    if room < blade_count(result) {
+    if room < blades(result) {
         return NO_ROOM;
     }
     DONE

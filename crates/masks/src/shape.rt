@@ -2,8 +2,9 @@
 use super::flavor::Flavor;
 use super::gather::conform_by;
 use super::gather::conform_one;
-use super::order::blade_count;
-use super::order::order_of;
+use super::order::blades;
+use super::order::blades_or_none;
+use super::order::sorted_order;
 use super::outcome::Answer;
 use super::outcome::Answers;
 use super::outcome::DONE;
@@ -76,7 +77,7 @@ fn conform_refusal(
     if no != DONE {
         return no;
     }
-    if room_right < blade_count(result) {
+    if room_right < blades(result) {
         return NO_ROOM;
     }
     DONE
@@ -104,14 +105,14 @@ fn conform_both(
         conform_one(up_right, other, n, b, out_right);
         return;
     }
-    let to = order_of(n);
-    let left = order_of(dims);
+    let to = sorted_order(n);
+    let left = sorted_order(dims);
     conform_by(up, dims, n, &to.masks, &left.places, a, out);
     if dims == other {
         conform_by(up_right, other, n, &to.masks, &left.places, b, out_right);
         return;
     }
-    let right = order_of(other);
+    let right = sorted_order(other);
     conform_by(up_right, other, n, &to.masks, &right.places, b, out_right);
 }
 
@@ -150,7 +151,7 @@ impl Shape {
         ensures { λ r. ⌜ Gives (setDims self «new_dims» (now (a .entry)) (length (now (out .entry)))) r (now (out .entry)) (now (out .exit)) ⌝ }
     {
         let dims = self.dims;
-        let no = refusal_of(dims, new_dims, a.len(), out.len(), blade_count(new_dims));
+        let no = refusal_of(dims, new_dims, a.len(), out.len(), blades_or_none(new_dims));
         if no != DONE {
             return refused(no);
         }
@@ -166,7 +167,7 @@ impl Shape {
         let own = self.flavor;
         let up = promotion(own, flavor);
         let n = promoted_dims(dims, up);
-        let no = refusal_of(dims, n, a.len(), out.len(), blade_count(n));
+        let no = refusal_of(dims, n, a.len(), out.len(), blades_or_none(n));
         if no != DONE {
             return refused(no);
         }
@@ -183,7 +184,7 @@ impl Shape {
         let theirs = other.flavor;
         let up = promotion(own, theirs);
         let n = larger(promoted_dims(dims, up), other.dims);
-        let no = refusal_of(dims, n, a.len(), out.len(), blade_count(n));
+        let no = refusal_of(dims, n, a.len(), out.len(), blades_or_none(n));
         if no != DONE {
             return refused(no);
         }

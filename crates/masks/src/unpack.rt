@@ -3,9 +3,9 @@ use super::gather::UNTURNED;
 use super::gather::coefficient;
 use super::gather::copy_all;
 use super::gather::gather;
-use super::order::blade_count;
 use super::order::blades;
-use super::order::order_of;
+use super::order::blades_or_none;
+use super::order::sorted_order;
 use super::order::zeros;
 use super::outcome::Count;
 use super::outcome::DONE;
@@ -60,8 +60,8 @@ fn read_all(dims: u8, d: u8, a: &[f64], out: &mut [f64])
         copy_all(a, out);
         return;
     }
-    let from = order_of(dims);
-    let to = order_of(d);
+    let from = sorted_order(dims);
+    let to = sorted_order(d);
     let n = blades(d);
     gather(&to.masks, 0, n, dims, &from.places, UNTURNED, a, out);
 }
@@ -103,7 +103,7 @@ fn half(odd: u32, lone: usize, dims: u8, d: u8, a: &[f64], out: &mut [f64])
     requires { ⌜ (odd ≤ 1) × (dims ≤ 9) × (d ≤ 9) × (length (now a) ≡ 2 ^ dims) × (2 ^ (d - 1) ≤ length (now out)) ⌝ }
     ensures { λ _. ⌜ now (out .exit) ≡ laid (map (coef dims (now (a .entry))) (halfMasks odd lone d)) (now (out .entry)) ⌝ }
 {
-    let from = order_of(dims);
+    let from = sorted_order(dims);
     if d == 0 {
         out[0] = coefficient(dims, &from.places, a, lone);
         return;
@@ -112,7 +112,7 @@ fn half(odd: u32, lone: usize, dims: u8, d: u8, a: &[f64], out: &mut [f64])
         read_half(odd, dims, d, &from.masks, &from.places, a, out);
         return;
     }
-    let to = order_of(d);
+    let to = sorted_order(d);
     read_half(odd, dims, d, &to.masks, &from.places, a, out);
 }
 
@@ -139,7 +139,7 @@ impl Shape {
         ensures { λ r. ⌜ Writes (unpackAll self d (now (a .entry)) (length (now (out .entry)))) r (now (out .entry)) (now (out .exit)) ⌝ }
     {
         let dims = self.dims;
-        let needed = blade_count(d);
+        let needed = blades_or_none(d);
         let no = refusal_of(dims, d, a.len(), out.len(), needed);
         if no != DONE {
             return none(no);
@@ -189,7 +189,7 @@ impl Shape {
         if no != DONE {
             return none(no);
         }
-        let o = order_of(dims);
+        let o = sorted_order(dims);
         gather(&o.masks, 1, needed, dims, &o.places, UNTURNED, a, out);
         Count {
             number: DONE,

@@ -3,7 +3,6 @@ use mathlib.Core.Path.{_≡_, refl, sym, _∙_}
 use Prim.Native.Nat.{_-_, _^_, _≤_, _<_}
 use native.Mathlib.Omega.{arith}
 use Rattle.masks.specs.Blade.{bladeDims}
-use Rattle.masks.proofs.ShapeLaws.{count-small}
 use Rattle.masks.proofs.BladeLaws.{below-nine, dims-here, dims-next}
 use Rattle.masks.proofs.blade.dims_for.Statement.{statement}
 use Rattle.masks.proofs.blade.dims_for.Tie as tie
@@ -17,13 +16,13 @@ abbrev μ-loop : tie.MeasureT-loop
 loop-holds : tie.Need-loop-holds Inv-loop μ-loop
 loop-holds c = (c .pre .0, refl)
 
-blade-count-requires : tie.Need-blade-count-requires Inv-loop μ-loop
-blade-count-requires c κs = tt
+blades-requires : tie.Need-blades-requires Inv-loop μ-loop
+blades-requires c κs = c .loop .inv .0
 
 -- one dimension more is needed
 module _ (c : tie.Then1 Inv-loop μ-loop) where
   more : 2 ^ (c .before .before .loop .n) ≤ c .before .before .before .args .mask
-  more = omega (arith, c .before .blade-count .ensures ∙ count-small _ (c .before .before .loop .inv .0))
+  more = omega (arith, c .before .blades .ensures)
 
   few : c .before .before .loop .n < 9
   few = below-nine (c .before .before .loop .n) (c .before .before .before .args .mask) (c .before .before .loop .inv .0) more (c .before .before .before .pre .1)
@@ -41,10 +40,10 @@ loop-again c =
 returns : tie.Need-returns Inv-loop μ-loop
 returns c =
     let l = c .before .before .loop in
-    let h : c .before .before .before .args .mask < 2 ^ (l .n) = omega (arith, c .before .blade-count .ensures ∙ count-small _ (l .inv .0)) in
+    let h : c .before .before .before .args .mask < 2 ^ (l .n) = omega (arith, c .before .blades .ensures) in
     sym (l .inv .1 ∙ dims-here (9 - l .n) (l .n) _ h)
 
 pub dims-for-spec : {M : Type 1} → statement M
 dims-for-spec =
     tie.close
-    (tie.spec Inv-loop μ-loop loop-holds blade-count-requires add-n loop-less loop-again returns)
+    (tie.spec Inv-loop μ-loop loop-holds blades-requires add-n loop-less loop-again returns)

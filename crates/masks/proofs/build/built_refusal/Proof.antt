@@ -2,7 +2,6 @@
 use mathlib.Core.Path.{sym}
 use native.Mathlib.Omega.{arith}
 use borrow.Author.Needs.{needs}
-use Rattle.masks.proofs.ShapeLaws.{count-small}
 use Rattle.masks.proofs.BuildLaws.{built-wide, built-short, built-done}
 use Rattle.masks.proofs.build.built_refusal.Statement.{statement}
 use Rattle.masks.proofs.build.built_refusal.Tie as tie
@@ -13,22 +12,22 @@ cast-if1 c = search needs
 returns : tie.Need-returns
 returns c = let a = c .before .args in sym (built-wide (a .dims) (a .room) (omega arith))
 
-cast-blade-count : tie.Need-cast-blade-count
-cast-blade-count c = omega arith
+cast-blades : tie.Need-cast-blades
+cast-blades c = omega arith
 
-blade-count-requires : tie.Need-blade-count-requires
-blade-count-requires c κs = search needs
+blades-requires : tie.Need-blades-requires
+blades-requires c κs = search needs
 
 returns-2 : tie.Need-returns-2
 returns-2 c =
     let a = c .before .before .before .args in
-    sym (built-short (a .dims) (a .room) (omega arith) (omega (arith, count-small (a .dims) (omega arith))))
+    sym (built-short (a .dims) (a .room) (omega arith) (omega arith))
 
 returns-3 : tie.Need-returns-3
 returns-3 c =
     let a = c .before .before .before .args in
-    sym (built-done (a .dims) (a .room) (omega arith) (omega (arith, count-small (a .dims) (omega arith))))
+    sym (built-done (a .dims) (a .room) (omega arith) (omega arith))
 
 pub built-refusal-spec : {M : Type 1} → statement M
 built-refusal-spec =
-    tie.close (tie.spec cast-if1 returns cast-blade-count blade-count-requires returns-2 returns-3)
+    tie.close (tie.spec cast-if1 returns cast-blades blades-requires returns-2 returns-3)

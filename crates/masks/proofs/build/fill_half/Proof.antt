@@ -10,17 +10,17 @@ use Rattle.masks.proofs.UnpackLaws.{held-order}
 use Rattle.masks.proofs.build.fill_half.Statement.{statement}
 use Rattle.masks.proofs.build.fill_half.Tie as tie
 
-order-of-requires : tie.Need-order-of-requires
-order-of-requires c κs = search needs
+sorted-order-requires : tie.Need-sorted-order-requires
+sorted-order-requires c κs = search needs
 
 blades-requires : tie.Need-blades-requires
 blades-requires c κs = search needs
 
 -- the masks that are lent are the order's
-ordered : (c : tie.After-blades) → take (c .blades .result) (c .before .order-of .result .masks) ≡ order (c .before .before .before .before .args .dims)
+ordered : (c : tie.After-blades) → take (c .blades .result) (c .before .sorted-order .result .masks) ≡ order (c .before .before .before .before .args .dims)
 ordered c =
     let s = c .before .before .before .before in
-    held-order _ (s .args .dims) _ (s .pre .1) (c .before .order-of .ensures) (c .blades .ensures)
+    held-order _ (s .args .dims) _ (c .before .sorted-order .ensures) (c .blades .ensures)
 
 spread-over-requires : tie.Need-spread-over-requires
 spread-over-requires c κs =
@@ -38,4 +38,4 @@ returns c =
     rw (ordered (c .before .before .before .before .before .before)) at (c .before .before .spread-over .ensures)
 
 pub fill-half-spec : {M : Type 1} → statement M
-fill-half-spec = tie.close (tie.spec order-of-requires blades-requires spread-over-requires same-length returns)
+fill-half-spec = tie.close (tie.spec sorted-order-requires blades-requires spread-over-requires same-length returns)

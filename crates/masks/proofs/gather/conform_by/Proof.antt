@@ -7,8 +7,8 @@ use lib.ListN.{length}
 use lib.Seq.{length-take-le}
 use Rattle.masks.specs.Order.{masksOf}
 use Rattle.masks.specs.Outcome.{laid}
-use Rattle.masks.proofs.OrderLaws.{blades-le}
-use Rattle.masks.proofs.ShapeLaws.{one, holds-masks, holds-places, promoted-one}
+use Rattle.masks.proofs.OrderLaws.{blades-le, built-masks, built-places}
+use Rattle.masks.proofs.ShapeLaws.{one, promoted-one}
 use Rattle.masks.proofs.ChangeLaws.{conformed-none, conformed-same, conformed-one}
 use Rattle.masks.proofs.gather.conform_by.Statement.{statement}
 use Rattle.masks.proofs.gather.conform_by.Tie as tie
@@ -65,11 +65,11 @@ returns-2 c =
     ∙ ap (λ xs. laid xs (a .out .now))
     (promoted-one (a .up) (a .dims) (a .a .now) (p .0) (i .if1 .left) ∙ sym (conformed-same (a .up) (a .dims) (a .new-dims) (a .a .now) (p .0) e (p .2) (p .3)))
 
-add-order-of : tie.Need-add-order-of
-add-order-of c = omega (arith, more (c .before))
+add-sorted-order : tie.Need-add-sorted-order
+add-sorted-order c = omega (arith, more (c .before))
 
-order-of-requires : tie.Need-order-of-requires
-order-of-requires c κs = search needs
+sorted-order-requires : tie.Need-sorted-order-requires
+sorted-order-requires c κs = more (c .before)
 
 slice-aggregate-promote : tie.Need-slice-aggregate-promote
 slice-aggregate-promote c = search needs
@@ -78,14 +78,14 @@ promote-requires-2 : tie.Need-promote-requires-2
 promote-requires-2 c κs =
     let o = c .before .before .before in
     let i = o .before .before in
-    ((omega (arith, more i), s i .pre .0 .3, few i), (holds-masks _ (s i .args .dims + 1) (more i) (o .order-of .ensures), s i .pre .1 .1))
+    ((omega (arith, more i), s i .pre .0 .3, few i), (built-masks (o .sorted-order .ensures), s i .pre .1 .1))
 
 add-blades : tie.Need-add-blades
 add-blades c = omega (arith, more (c .before .before .before .before .before .before .before))
 
 -- what the second step rests on
 module _ (c : tie.After-blades) where
-  abbrev o : tie.After-order-of
+  abbrev o : tie.After-sorted-order
   o = c .before .before .before .before .before .before
 
   abbrev i : tie.Else1
@@ -112,7 +112,7 @@ resize-requires-2 c κs =
     let b = c .before .before .before .before in
     let m = more (i b) in
     let p = s (i b) .pre in
-    ((m, p .0 .2, length-take-le _ _ (lent b) ∙ b .blades .ensures, p .0 .4), (p .1 .0, holds-places _ (s (i b) .args .dims + 1) m (o b .order-of .ensures)))
+    ((m, p .0 .2, length-take-le _ _ (lent b) ∙ b .blades .ensures, p .0 .4), (p .1 .0, built-places (o b .sorted-order .ensures)))
 
 same-length-3 : tie.Need-same-length-3
 same-length-3 c = search needs
@@ -136,8 +136,8 @@ conform-by-spec =
     promote-requires
     same-length-2
     returns-2
-    add-order-of
-    order-of-requires
+    add-sorted-order
+    sorted-order-requires
     slice-aggregate-promote
     promote-requires-2
     add-blades

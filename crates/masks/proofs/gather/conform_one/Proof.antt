@@ -5,7 +5,8 @@ use native.Mathlib.Omega.{arith}
 use borrow.Author.Needs.{needs}
 use lib.ListN.{length}
 use Rattle.masks.specs.Outcome.{laid}
-use Rattle.masks.proofs.ShapeLaws.{holds-masks, holds-places, promoted-none}
+use Rattle.masks.proofs.OrderLaws.{built-masks, built-places}
+use Rattle.masks.proofs.ShapeLaws.{promoted-none}
 use Rattle.masks.proofs.ChangeLaws.{conformed-same}
 use Rattle.masks.proofs.gather.conform_one.Statement.{statement}
 use Rattle.masks.proofs.gather.conform_one.Tie as tie
@@ -31,18 +32,18 @@ returns c =
     ∙ ap (λ xs. laid xs (a .out .now))
     (sym (conformed-same (a .up) (a .dims) (a .new-dims) (a .a .now) (p .0) e (p .2) (p .3) ∙ promoted-none (a .up) (a .dims) (a .a .now) z))
 
-order-of-requires : tie.Need-order-of-requires
-order-of-requires c κs = search needs
+sorted-order-requires : tie.Need-sorted-order-requires
+sorted-order-requires c κs = omega (arith, c .before .before .before .pre .0 .1)
 
-order-of-requires-2 : tie.Need-order-of-requires-2
-order-of-requires-2 c κs = search needs
+sorted-order-requires-2 : tie.Need-sorted-order-requires-2
+sorted-order-requires-2 c κs = c .before .before .before .before .pre .0 .2
 
 conform-by-requires : tie.Need-conform-by-requires
 conform-by-requires c κs =
     let o = c .before .before .before .before .before in
     let s = o .before .before .before .before .before in
     let p = s .pre .0 in
-    (p, (holds-masks _ (s .args .new-dims) (p .2) (o .order-of2 .ensures), holds-places _ (s .args .dims) (omega (arith, p .1)) (o .before .order-of .ensures)))
+    (p, (built-masks (o .sorted-order2 .ensures), built-places (o .before .sorted-order .ensures)))
 
 same-length-2 : tie.Need-same-length-2
 same-length-2 c = search needs
@@ -57,8 +58,8 @@ conform-one-spec =
     copy-all-requires
     same-length
     returns
-    order-of-requires
-    order-of-requires-2
+    sorted-order-requires
+    sorted-order-requires-2
     conform-by-requires
     same-length-2
     returns-2)

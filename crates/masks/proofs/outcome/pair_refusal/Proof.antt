@@ -5,7 +5,6 @@ use native.Mathlib.Omega.{arith}
 use borrow.Author.Needs.{needs}
 use borrow.Author.Tests.{eq-eqb, ne-eqb, lt-ltb, le-ltb}
 use Rattle.masks.specs.Outcome.{refusal}
-use Rattle.masks.proofs.ShapeLaws.{count-small}
 use Rattle.masks.proofs.outcome.pair_refusal.Statement.{statement}
 use Rattle.masks.proofs.outcome.pair_refusal.Tie as tie
 
@@ -21,23 +20,23 @@ returns-3 : tie.Need-returns-3
 unfolding refusal
 returns-3 c = simp (le-ltb 9 _ (c .before .before .if1 .left), le-ltb 9 _ (c .before .if2 .left), lt-ltb 9 _ (c .if3 .taken))
 
-blade-count-requires : tie.Need-blade-count-requires
-blade-count-requires c κs = search needs
+blades-requires : tie.Need-blades-requires
+blades-requires c κs = search needs
 
 returns-4 : tie.Need-returns-4
 unfolding refusal
 returns-4 c =
     let t = c .before .before in
     let d = t .before .before .if1 .left in
-    let b = c .before .blade-count .ensures ∙ count-small _ d in
+    let b = c .before .blades .ensures in
     simp (le-ltb 9 _ d, le-ltb 9 _ (t .before .if2 .left), le-ltb 9 _ (t .if3 .left), ne-eqb _ _ (λ e. c .if4 .taken (e ∙ sym b)))
 
-blade-count-requires-2 : tie.Need-blade-count-requires-2
-blade-count-requires-2 c κs = search needs
+blades-requires-2 : tie.Need-blades-requires-2
+blades-requires-2 c κs = search needs
 
 -- the value on the left has its count
 left : (c : tie.Else4) → c .before .before .before .before .before .args .count ≡ 2 ^ (c .before .before .before .before .before .args .dims)
-left c = c .if4 .left ∙ c .before .blade-count .ensures ∙ count-small _ (c .before .before .before .before .if1 .left)
+left c = c .if4 .left ∙ c .before .blades .ensures
 
 returns-5 : tie.Need-returns-5
 unfolding refusal
@@ -45,15 +44,15 @@ returns-5 c =
     let u = c .before .before in
     let t = u .before .before in
     let o = t .before .if2 .left in
-    let b = c .before .blade-count2 .ensures ∙ count-small _ o in
+    let b = c .before .blades2 .ensures in
     simp (le-ltb 9 _ (t .before .before .if1 .left), le-ltb 9 _ o, le-ltb 9 _ (t .if3 .left), eq-eqb _ _ (left u), ne-eqb _ _ (λ e. c .if5 .taken (e ∙ sym b)))
 
-blade-count-requires-3 : tie.Need-blade-count-requires-3
-blade-count-requires-3 c κs = search needs
+blades-requires-3 : tie.Need-blades-requires-3
+blades-requires-3 c κs = search needs
 
 -- and so has the value on the right
 right : (c : tie.Else5) → c .before .before .before .before .before .before .before .args .count-right ≡ 2 ^ (c .before .before .before .before .before .before .before .args .other)
-right c = c .if5 .left ∙ c .before .blade-count2 .ensures ∙ count-small _ (c .before .before .before .before .before .if2 .left)
+right c = c .if5 .left ∙ c .before .blades2 .ensures
 
 returns-6 : tie.Need-returns-6
 unfolding refusal
@@ -63,7 +62,7 @@ returns-6 c =
     let t = u .before .before in
     let a = t .before .before .before .args in
     let r = t .if3 .left in
-    let h : a .room < 2 ^ (a .result) = omega (arith, c .before .blade-count3 .ensures ∙ count-small _ r) in
+    let h : a .room < 2 ^ (a .result) = omega (arith, c .before .blades3 .ensures) in
     simp (le-ltb 9 _ (t .before .before .if1 .left), le-ltb 9 _ (t .before .if2 .left), le-ltb 9 _ r, eq-eqb _ _ (left u), eq-eqb _ _ (right v), lt-ltb _ _ h)
 
 returns-7 : tie.Need-returns-7
@@ -74,7 +73,7 @@ returns-7 c =
     let t = u .before .before in
     let a = t .before .before .before .args in
     let r = t .if3 .left in
-    let h : 2 ^ (a .result) ≤ a .room = omega (arith, c .before .blade-count3 .ensures ∙ count-small _ r) in
+    let h : 2 ^ (a .result) ≤ a .room = omega (arith, c .before .blades3 .ensures) in
     simp (le-ltb 9 _ (t .before .before .if1 .left), le-ltb 9 _ (t .before .if2 .left), le-ltb 9 _ r, eq-eqb _ _ (left u), eq-eqb _ _ (right v), le-ltb _ _ h)
 
 pub pair-refusal-spec : {M : Type 1} → statement M
@@ -84,10 +83,10 @@ pair-refusal-spec =
     returns
     returns-2
     returns-3
-    blade-count-requires
+    blades-requires
     returns-4
-    blade-count-requires-2
+    blades-requires-2
     returns-5
-    blade-count-requires-3
+    blades-requires-3
     returns-6
     returns-7)

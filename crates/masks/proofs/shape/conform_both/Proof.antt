@@ -4,7 +4,7 @@ use Prim.Native.Nat.{_+_, _≤_}
 use native.Mathlib.Omega.{arith}
 use borrow.Author.Needs.{needs}
 use Rattle.masks.specs.Order.{masksOf, placesOf}
-use Rattle.masks.proofs.ShapeLaws.{holds-masks, holds-places}
+use Rattle.masks.proofs.OrderLaws.{built-masks, built-places}
 use Rattle.masks.proofs.shape.conform_both.Statement.{statement}
 use Rattle.masks.proofs.shape.conform_both.Tie as tie
 
@@ -43,25 +43,25 @@ same-length-2 c = search needs
 returns : tie.Need-returns
 returns c = (c .before .before .before .before .before .before .conform-one .ensures, c .before .before .conform-one2 .ensures)
 
-order-of-requires : tie.Need-order-of-requires
-order-of-requires c κs = search needs
+sorted-order-requires : tie.Need-sorted-order-requires
+sorted-order-requires c κs = s (c .before) .pre .0 .4
 
-order-of-requires-2 : tie.Need-order-of-requires-2
-order-of-requires-2 c κs = search needs
+sorted-order-requires-2 : tie.Need-sorted-order-requires-2
+sorted-order-requires-2 c κs = omega (arith, left (c .before .before))
 
 -- the orders that are built for the left
 module _ (c : tie.After-conform-by-arg3) where
-  abbrev o : tie.After-order-of2
+  abbrev o : tie.After-sorted-order2
   o = c .before .before .before .before .before
 
   abbrev l : tie.After-larger
   l = o .before .before .before
 
-  masks : o .before .order-of .result .masks ≡ masksOf (s l .args .n)
-  masks = holds-masks _ (s l .args .n) (s l .pre .0 .4) (o .before .order-of .ensures)
+  masks : o .before .sorted-order .result .masks ≡ masksOf (s l .args .n)
+  masks = built-masks (o .before .sorted-order .ensures)
 
-  places : o .order-of2 .result .places ≡ placesOf (s l .args .dims)
-  places = holds-places _ (s l .args .dims) (omega (arith, left l)) (o .order-of2 .ensures)
+  places : o .sorted-order2 .result .places ≡ placesOf (s l .args .dims)
+  places = built-places (o .sorted-order2 .ensures)
 
 conform-by-requires : tie.Need-conform-by-requires
 conform-by-requires c κs =
@@ -86,15 +86,15 @@ returns-2 c =
     let j = c .before .before .before .before .before .before .before .before in
     (j .before .before .before .conform-by .ensures, c .before .before .conform-by2 .ensures)
 
-order-of-requires-3 : tie.Need-order-of-requires-3
-order-of-requires-3 c κs = search needs
+sorted-order-requires-3 : tie.Need-sorted-order-requires-3
+sorted-order-requires-3 c κs = omega (arith, right (l (c .before .before .before .before)))
 
 conform-by-requires-3 : tie.Need-conform-by-requires-3
 conform-by-requires-3 c κs =
     let r = c .before .before .before .before .before in
     let t = r .before .before .before .before .before in
     let p = s (l t) .pre in
-    ((p .0 .1, right (l t), p .0 .4, p .1 .1, p .1 .3), (masks t, holds-places _ (s (l t) .args .other) (omega (arith, right (l t))) (r .order-of3 .ensures)))
+    ((p .0 .1, right (l t), p .0 .4, p .1 .1, p .1 .3), (masks t, built-places (r .sorted-order3 .ensures)))
 
 same-length-5 : tie.Need-same-length-5
 same-length-5 c = search needs
@@ -117,14 +117,14 @@ conform-both-spec =
     same-length
     same-length-2
     returns
-    order-of-requires
-    order-of-requires-2
+    sorted-order-requires
+    sorted-order-requires-2
     conform-by-requires
     conform-by-requires-2
     same-length-3
     same-length-4
     returns-2
-    order-of-requires-3
+    sorted-order-requires-3
     conform-by-requires-3
     same-length-5
     same-length-6

@@ -8,7 +8,6 @@ use borrow.Author.Tests.{lt-ltb, le-ltb}
 use Rattle.masks.specs.Outcome.{refusal, noRoom}
 use Rattle.masks.proofs.RefusalLaws.{refused-already, refused-first, refused-later}
 use Rattle.masks.proofs.ChangeLaws.{pairTests, pairChecks, passed, second-room}
-use Rattle.masks.proofs.ShapeLaws.{count-small}
 use Rattle.masks.proofs.shape.conform_refusal.Statement.{statement}
 use Rattle.masks.proofs.shape.conform_refusal.Tie as tie
 
@@ -29,32 +28,28 @@ returns c =
 unrefused : (c : tie.Else1) → let a = c .before .before .args in refusal (pairTests (a .dims) (a .other) (a .result) (a .count) (a .count-right) (a .room)) ≡ 0
 unrefused c = sym (c .before .pair-refusal .ensures) ∙ c .if1 .left
 
--- The count of blades is that of the result.
-counted : (b : tie.After-blade-count) → b .blade-count .result ≡ 2 ^ b .before .before .before .args .result
-counted b =
-    let a = b .before .before .before .args in
-    b .blade-count .ensures ∙ count-small _ (passed (a .dims) (a .other) (a .result) (a .count) (a .count-right) (a .room) (unrefused (b .before)) .result)
-
 -- The room on the right decides.
-decided : (b : tie.After-blade-count) → let a = b .before .before .before .args in refusal (pairChecks (a .dims) (a .other) (a .result) (a .count) (a .count-right) (a .room) (a .room-right)) ≡ refusal (noRoom (a .room-right) (2 ^ a .result) ∷ [])
+decided : (b : tie.After-blades) → let a = b .before .before .before .args in refusal (pairChecks (a .dims) (a .other) (a .result) (a .count) (a .count-right) (a .room) (a .room-right)) ≡ refusal (noRoom (a .room-right) (2 ^ a .result) ∷ [])
 decided b =
     let a = b .before .before .before .args in
     second-room (a .dims) (a .other) (a .result) (a .count) (a .count-right) (a .room) (a .room-right) (unrefused (b .before))
 
-blade-count-requires : tie.Need-blade-count-requires
-blade-count-requires c κs = search needs
+blades-requires : tie.Need-blades-requires
+blades-requires c κs =
+    let a = c .before .before .args in
+    passed (a .dims) (a .other) (a .result) (a .count) (a .count-right) (a .room) (unrefused c) .result
 
 returns-2 : tie.Need-returns-2
 returns-2 c =
     let a = c .before .before .before .before .args in
-    let h : a .room-right < 2 ^ a .result = omega (arith, c .if2 .taken, counted (c .before)) in
+    let h : a .room-right < 2 ^ a .result = omega (arith, c .if2 .taken, c .before .blades .ensures) in
     sym (decided (c .before) ∙ refused-first (noRoom (a .room-right) (2 ^ a .result)) [] (lt-ltb _ _ h))
 
 returns-3 : tie.Need-returns-3
 returns-3 c =
     let a = c .before .before .before .before .args in
-    let h : 2 ^ a .result ≤ a .room-right = omega (arith, c .if2 .left, counted (c .before)) in
+    let h : 2 ^ a .result ≤ a .room-right = omega (arith, c .if2 .left, c .before .blades .ensures) in
     sym (decided (c .before) ∙ refused-later (noRoom (a .room-right) (2 ^ a .result)) [] (le-ltb _ _ h) ∙ nothing)
 
 pub conform-refusal-spec : {M : Type 1} → statement M
-conform-refusal-spec = tie.close (tie.spec pair-refusal-requires returns blade-count-requires returns-2 returns-3)
+conform-refusal-spec = tie.close (tie.spec pair-refusal-requires returns blades-requires returns-2 returns-3)

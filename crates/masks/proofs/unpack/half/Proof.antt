@@ -9,21 +9,21 @@ use lib.Seq.{set-split}
 use Rattle.masks.specs.Order.{masksOf, placesOf}
 use Rattle.masks.specs.Outcome.{laid}
 use Rattle.masks.specs.Shape.{coef}
-use Rattle.masks.proofs.ShapeLaws.{holds-masks, holds-places}
+use Rattle.masks.proofs.OrderLaws.{built-masks, built-places}
 use Rattle.masks.proofs.UnpackLaws.{lone-mask, half-masks}
 use Rattle.masks.proofs.unpack.half.Statement.{statement}
 use Rattle.masks.proofs.unpack.half.Tie as tie
 
-order-of-requires : tie.Need-order-of-requires
-order-of-requires c κs = search needs
+sorted-order-requires : tie.Need-sorted-order-requires
+sorted-order-requires c κs = search needs
 
 -- the places of the value's dimensions
-module _ (c : tie.After-order-of) where
+module _ (c : tie.After-sorted-order) where
   abbrev s : tie.Start
   s = c .before .before .before
 
-  places : c .order-of .result .places ≡ placesOf (s .args .dims)
-  places = holds-places _ (s .args .dims) (s .pre .1) (c .order-of .ensures)
+  places : c .sorted-order .result .places ≡ placesOf (s .args .dims)
+  places = built-places (c .sorted-order .ensures)
 
 coefficient-requires : tie.Need-coefficient-requires
 coefficient-requires c κs =
@@ -55,7 +55,7 @@ read-half-requires c κs =
     let i = j .before in
     let o = i .before in
     let p = s o .pre in
-    ((p .0, p .1, some i, p .2, p .3, p .4), (holds-masks _ (s o .args .dims) (p .1) (o .order-of .ensures) ∙ ap masksOf (sym (j .if2 .taken)), places o))
+    ((p .0, p .1, some i, p .2, p .3, p .4), (built-masks (o .sorted-order .ensures) ∙ ap masksOf (sym (j .if2 .taken)), places o))
 
 same-length-2 : tie.Need-same-length-2
 same-length-2 c = search needs
@@ -67,8 +67,8 @@ returns-2 c =
     c .before .before .read-half .ensures
     ∙ ap (λ ms. laid (map (coef (a .dims) (a .a .now)) ms) (a .out .now)) (sym (half-masks (a .odd) (a .lone) (a .d) (i .if1 .left)))
 
-order-of-requires-2 : tie.Need-order-of-requires-2
-order-of-requires-2 c κs = search needs
+sorted-order-requires-2 : tie.Need-sorted-order-requires-2
+sorted-order-requires-2 c κs = search needs
 
 read-half-requires-2 : tie.Need-read-half-requires-2
 read-half-requires-2 c κs =
@@ -76,7 +76,7 @@ read-half-requires-2 c κs =
     let i = r .before .before in
     let o = i .before in
     let p = s o .pre in
-    ((p .0, p .1, some i, p .2, p .3, p .4), (holds-masks _ (s o .args .d) (p .2) (r .order-of2 .ensures), places o))
+    ((p .0, p .1, some i, p .2, p .3, p .4), (built-masks (r .sorted-order2 .ensures), places o))
 
 same-length-3 : tie.Need-same-length-3
 same-length-3 c = search needs
@@ -92,7 +92,7 @@ pub half-spec : {M : Type 1} → statement M
 half-spec =
     tie.close
     (tie.spec
-    order-of-requires
+    sorted-order-requires
     coefficient-requires
     slice-write-out
     same-length
@@ -100,7 +100,7 @@ half-spec =
     read-half-requires
     same-length-2
     returns-2
-    order-of-requires-2
+    sorted-order-requires-2
     read-half-requires-2
     same-length-3
     returns-3)

@@ -9,8 +9,7 @@ use lib.ListN.{length}
 use Rattle.masks.specs.Order.{order}
 use Rattle.masks.specs.Outcome.{laid}
 use Rattle.masks.specs.Shape.{coef}
-use Rattle.masks.proofs.OrderLaws.{blades-le}
-use Rattle.masks.proofs.ShapeLaws.{holds-masks, holds-places}
+use Rattle.masks.proofs.OrderLaws.{blades-le, built-masks, built-places}
 use Rattle.masks.proofs.UnpackLaws.{all-read, all-back}
 use Rattle.masks.proofs.unpack.read_all.Statement.{statement}
 use Rattle.masks.proofs.unpack.read_all.Tie as tie
@@ -33,18 +32,18 @@ returns c =
     ∙ ap (λ xs. laid xs (a .out .now))
     (sym (all-back (a .dims) (a .a .now) (s .pre .2)) ∙ ap (λ n. map (coef (a .dims) (a .a .now)) (order n)) (sym (i .if1 .taken)))
 
-order-of-requires : tie.Need-order-of-requires
-order-of-requires c κs = search needs
+sorted-order-requires : tie.Need-sorted-order-requires
+sorted-order-requires c κs = search needs
 
-order-of-requires-2 : tie.Need-order-of-requires-2
-order-of-requires-2 c κs = search needs
+sorted-order-requires-2 : tie.Need-sorted-order-requires-2
+sorted-order-requires-2 c κs = search needs
 
 blades-requires : tie.Need-blades-requires
 blades-requires c κs = search needs
 
 -- what is built
 module _ (c : tie.After-blades) where
-  abbrev o : tie.After-order-of2
+  abbrev o : tie.After-sorted-order2
   o = c .before
 
   abbrev s : tie.Start
@@ -55,7 +54,7 @@ gather-requires c κs =
     let b = c .before .before .before .before .before in
     let p = s b .pre in
     let n = b .blades .ensures in
-    ((p .0, holds-places _ (s b .args .dims) (p .0) (o b .before .order-of .ensures), p .2), (omega (arith, n, blades-le (s b .args .d) (p .1)), omega (arith, n, p .3)))
+    ((p .0, built-places (o b .before .sorted-order .ensures), p .2), (omega (arith, n, blades-le (s b .args .d) (p .1)), omega (arith, n, p .3)))
 
 same-length-2 : tie.Need-same-length-2
 same-length-2 c = search needs
@@ -65,7 +64,7 @@ returns-2 c =
     let b = c .before .before .before .before .before .before .before .before in
     let a = s b .args in
     let h = s b .pre .1 in
-    all-read 1024 (a .dims) (a .a .now) (lit≤ tt) (a .d) (o b .order-of2 .result .masks) h (holds-masks _ (a .d) h (o b .order-of2 .ensures)) (a .out .now) _ _ (b .blades .ensures)
+    all-read 1024 (a .dims) (a .a .now) (lit≤ tt) (a .d) (o b .sorted-order2 .result .masks) h (built-masks (o b .sorted-order2 .ensures)) (a .out .now) _ _ (b .blades .ensures)
     (c .before .before .gather .ensures)
 
 pub read-all-spec : {M : Type 1} → statement M
@@ -75,8 +74,8 @@ read-all-spec =
     copy-all-requires
     same-length
     returns
-    order-of-requires
-    order-of-requires-2
+    sorted-order-requires
+    sorted-order-requires-2
     blades-requires
     gather-requires
     same-length-2

@@ -11,9 +11,9 @@ use Rattle.masks.specs.Order.{placesOf}
 use Rattle.masks.specs.Outcome.{laid, Gives}
 use Rattle.masks.specs.Shape.{withDims}
 use Rattle.masks.specs.Blade.{setBlade}
-use Rattle.masks.proofs.OrderLaws.{blades-le}
+use Rattle.masks.proofs.OrderLaws.{blades-le, built-masks, built-places}
 use Rattle.masks.proofs.RefusalLaws.{gives-refused, gives-done}
-use Rattle.masks.proofs.ShapeLaws.{holds-masks, holds-places, resized-held}
+use Rattle.masks.proofs.ShapeLaws.{resized-held}
 use Rattle.masks.proofs.BladeLaws.{below-nine, dims-here, blade-here, Placed, placed, blade-grown}
 use Rattle.masks.proofs.shape.Shape.set_blade.Reads as set-blade
 use Rattle.masks.proofs.shape.Shape.set_blade.Kinds as set-blade-kinds
@@ -22,7 +22,7 @@ use Rattle.masks.proofs.blade.put_blade.Reads as put-blade-reads
 use Rattle.masks.proofs.blade.set_blade_refusal.Reads as set-blade-refusal-reads
 use Rattle.masks.proofs.gather.resize.Reads as resize-reads
 use Rattle.masks.proofs.order.blades.Reads as blades-reads
-use Rattle.masks.proofs.order.order_of.Reads as order-of-reads
+use Rattle.masks.proofs.order.sorted_order.Reads as sorted-order-reads
 use Rattle.masks.proofs.outcome.done.Reads as done-reads
 use Rattle.masks.proofs.outcome.refused.Reads as refused-reads
 use Rattle.masks.proofs.shape.Shape.with_dims.Reads as with-dims-reads
@@ -47,8 +47,8 @@ told t = (
   set-blade-refusal-reads.Learnt,
   refused-reads.Asked,
   refused-reads.Learnt,
-  order-of-reads.Asked,
-  order-of-reads.Learnt,
+  sorted-order-reads.Asked,
+  sorted-order-reads.Learnt,
   blades-reads.Asked,
   blades-reads.Learnt,
   put-blade-reads.Asked,
@@ -82,15 +82,15 @@ module _ (t : ℕ) where
     ok : Placed (s .args .self .dims) (s .args .mask) (length (s .args .a .now)) (length (s .args .out .now))
     ok = placed (s .args .self .dims) (s .args .mask) (length (s .args .a .now)) (length (s .args .out .now)) (sym (c .before .set-blade-refusal .ensures) ∙ c .if1 .left)
 
-  order-of-requires : set-blade-lts.Need-order-of-requires (told t) (set-blade-at t) set-blade.Post
-  order-of-requires c κs = tt
+  sorted-order-requires : set-blade-lts.Need-sorted-order-requires (told t) (set-blade-at t) set-blade.Post
+  sorted-order-requires c κs = ok c .small
 
   blades-requires : set-blade-lts.Need-blades-requires (told t) (set-blade-at t) set-blade.Post
   blades-requires c κs = ok (c .before) .small
 
   -- the places that are lent
-  places : (c : set-blade-lts.After-order-of (told t) (set-blade-at t) set-blade.Post) → c .order-of .result .places ≡ placesOf (s (c .before) .args .self .dims)
-  places c = holds-places _ (s (c .before) .args .self .dims) (ok (c .before) .small) (c .order-of .ensures)
+  places : (c : set-blade-lts.After-sorted-order (told t) (set-blade-at t) set-blade.Post) → c .sorted-order .result .places ≡ placesOf (s (c .before) .args .self .dims)
+  places c = built-places (c .sorted-order .ensures)
 
   inside : (c : set-blade-lts.Then2 (told t) (set-blade-at t) set-blade.Post) → s (c .before .before .before) .args .mask < 2 ^ (s (c .before .before .before) .args .self .dims)
   inside c = omega (arith, c .if2 .taken, c .before .blades .ensures)
@@ -136,11 +136,11 @@ module _ (t : ℕ) where
     few : 2 ^ (s i .args .self .dims + 1) ≤ 512
     few = blades-le (s i .args .self .dims + 1) (omega (arith, more))
 
-  add-order-of : set-blade-lts.Need-add-order-of (told t) (set-blade-at t) set-blade.Post
-  add-order-of c = omega (arith, more c)
+  add-sorted-order : set-blade-lts.Need-add-sorted-order (told t) (set-blade-at t) set-blade.Post
+  add-sorted-order c = omega (arith, more c)
 
-  order-of-requires-2 : set-blade-lts.Need-order-of-requires-2 (told t) (set-blade-at t) set-blade.Post
-  order-of-requires-2 c κs = tt
+  sorted-order-requires-2 : set-blade-lts.Need-sorted-order-requires-2 (told t) (set-blade-at t) set-blade.Post
+  sorted-order-requires-2 c κs = omega (arith, more c)
 
   add-resize : set-blade-lts.Need-add-resize (told t) (set-blade-at t) set-blade.Post
   add-resize c = omega (arith, more (c .before))
@@ -154,7 +154,7 @@ module _ (t : ℕ) where
       let j = n .before in
       let p = ok (i j) in
       let m : s (i j) .args .self .dims + 1 ≤ 9 = omega (arith, more j) in
-      ((p .small, m, p .counted, few j), (holds-masks _ (s (i j) .args .self .dims + 1) m (n .order-of2 .ensures), places (j .before .before)))
+      ((p .small, m, p .counted, few j), (built-masks (n .sorted-order2 .ensures), places (j .before .before)))
 
   -- where the value is grown
   abbrev grown : set-blade-lts.After-held2 (told t) (set-blade-at t) set-blade.Post → set-blade-lts.Else2 (told t) (set-blade-at t) set-blade.Post
@@ -213,14 +213,14 @@ pub +set-blade-spec : {M : Type 1} → statement M
     (set-blade-refusal-requires t)
     (refused-requires t)
     (returns t)
-    (order-of-requires t)
+    (sorted-order-requires t)
     (blades-requires t)
     (put-blade-requires t)
     (done-requires t)
     (same-length t)
     (returns-2 t)
-    (add-order-of t)
-    (order-of-requires-2 t)
+    (add-sorted-order t)
+    (sorted-order-requires-2 t)
     (add-resize t)
     (slice-aggregate-resize t)
     (resize-requires t)

@@ -6,6 +6,7 @@ use borrow.Author.Needs.{needs}
 use lib.ListN.{length}
 use Rattle.masks.specs.Outcome.{refusal, laid}
 use Rattle.masks.specs.Shape.{promotes, conformed, conformedShape, conformTo}
+use Rattle.masks.proofs.OrderLaws.{none-counted}
 use Rattle.masks.proofs.RefusalLaws.{Taken, taken, gives-refused, gives-done}
 use Rattle.masks.proofs.ChangeLaws.{promotes-le, promoted-small, checks, checked, checks-same}
 use Rattle.masks.proofs.shape.Shape.conform_to.Statement.{statement}
@@ -25,8 +26,8 @@ promoted-dims-requires c κs = few c
 larger-requires : tie.Need-larger-requires
 larger-requires c κs = search needs
 
-blade-count-requires : tie.Need-blade-count-requires
-blade-count-requires c κs = search needs
+blades-or-none-requires : tie.Need-blades-or-none-requires
+blades-or-none-requires c κs = search needs
 
 refusal-of-requires : tie.Need-refusal-of-requires
 refusal-of-requires c κs = search needs
@@ -59,7 +60,7 @@ module _ (c : tie.After-refusal-of) where
 
   number : c .refusal-of .result ≡ refusal (checks own (l .larger .result) (length (s .args .a .now)) (length (s .args .out .now)) (2 ^ (l .larger .result)))
   number =
-      checked _ own (l .larger .result) (length (s .args .a .now)) (length (s .args .out .now)) _ (c .refusal-of .ensures) (c .before .blade-count .ensures)
+      checked _ own (l .larger .result) (length (s .args .a .now)) (length (s .args .out .now)) _ (c .refusal-of .ensures) (none-counted (c .before .blades-or-none .ensures))
 
   numbered : c .refusal-of .result ≡ refusal (checks own dims (length (s .args .a .now)) (length (s .args .out .now)) (2 ^ dims))
   numbered = number ∙ checks-same own (l .larger .result) dims (length (s .args .a .now)) (length (s .args .out .now)) same
@@ -113,7 +114,7 @@ conform-to-spec =
     promotion-requires
     promoted-dims-requires
     larger-requires
-    blade-count-requires
+    blades-or-none-requires
     refusal-of-requires
     refused-requires
     returns

@@ -6,8 +6,8 @@ use lib.Ieee.{ofBits, ofFields}
 use lib.ListN.{length}
 use Rattle.masks.specs.Outcome.{refusedReal}
 use Rattle.masks.specs.Blade.{getBlade}
+use Rattle.masks.proofs.OrderLaws.{built-places}
 use Rattle.masks.proofs.RefusalLaws.{unless-refused, unless-done}
-use Rattle.masks.proofs.ShapeLaws.{holds-places}
 use Rattle.masks.proofs.BladeLaws.{Valued, valued}
 use Rattle.masks.proofs.shape.Shape.get_blade.Statement.{statement}
 use Rattle.masks.proofs.shape.Shape.get_blade.Tie as tie
@@ -19,15 +19,17 @@ returns : tie.Need-returns
 unfolding getBlade ofBits ofFields
 returns c = sym (unless-refused refusedReal _ _ _ (c .before .value-refusal .ensures) (c .if1 .taken))
 
-order-of-requires : tie.Need-order-of-requires
-order-of-requires c κs = search needs
+-- the call is not refused
+ok : (c : tie.Else1) → Valued (c .before .before .before .args .self .dims) (length (c .before .before .before .args .a .now))
+ok c = valued _ _ [] (sym (c .before .value-refusal .ensures) ∙ c .if1 .left) .0
+
+sorted-order-requires : tie.Need-sorted-order-requires
+sorted-order-requires c κs = ok c .small
 
 coefficient-requires : tie.Need-coefficient-requires
 coefficient-requires c κs =
-    let i = c .before .before .before in
-    let s = i .before .before .before .args in
-    let v : Valued (s .self .dims) (length (s .a .now)) = valued _ _ [] (sym (i .before .value-refusal .ensures) ∙ i .if1 .left) .0 in
-    (v .small, holds-places _ (s .self .dims) (v .small) (c .before .before .order-of .ensures), v .counted)
+    let v = ok (c .before .before .before) in
+    (v .small, built-places (c .before .before .sorted-order .ensures), v .counted)
 
 returns-2 : tie.Need-returns-2
 unfolding getBlade
@@ -38,4 +40,4 @@ returns-2 c =
 pub get-blade-spec : {M : Type 1} → statement M
 get-blade-spec =
     tie.close
-    (tie.spec value-refusal-requires returns order-of-requires coefficient-requires returns-2)
+    (tie.spec value-refusal-requires returns sorted-order-requires coefficient-requires returns-2)

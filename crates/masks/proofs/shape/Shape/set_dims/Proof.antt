@@ -6,13 +6,14 @@ use borrow.Author.Needs.{needs}
 use lib.ListN.{length}
 use Rattle.masks.specs.Outcome.{refusal, laid}
 use Rattle.masks.specs.Shape.{setDims}
+use Rattle.masks.proofs.OrderLaws.{none-counted}
 use Rattle.masks.proofs.RefusalLaws.{Taken, taken, gives-refused, gives-done}
 use Rattle.masks.proofs.ChangeLaws.{checks, checked, conformed-none}
 use Rattle.masks.proofs.shape.Shape.set_dims.Statement.{statement}
 use Rattle.masks.proofs.shape.Shape.set_dims.Tie as tie
 
-blade-count-requires : tie.Need-blade-count-requires
-blade-count-requires c κs = search needs
+blades-or-none-requires : tie.Need-blades-or-none-requires
+blades-or-none-requires c κs = search needs
 
 refusal-of-requires : tie.Need-refusal-of-requires
 refusal-of-requires c κs = search needs
@@ -26,7 +27,7 @@ module _ (c : tie.After-refusal-of) where
   s = c .before .before .before .before
 
   number : c .refusal-of .result ≡ refusal (checks (s .args .self .dims) (s .args .new-dims) (length (s .args .a .now)) (length (s .args .out .now)) (2 ^ (s .args .new-dims)))
-  number = checked _ (s .args .self .dims) (s .args .new-dims) (length (s .args .a .now)) (length (s .args .out .now)) _ (c .refusal-of .ensures) (c .before .blade-count .ensures)
+  number = checked _ (s .args .self .dims) (s .args .new-dims) (length (s .args .a .now)) (length (s .args .out .now)) _ (c .refusal-of .ensures) (none-counted (c .before .blades-or-none .ensures))
 
 returns : tie.Need-returns
 unfolding setDims
@@ -60,7 +61,7 @@ pub set-dims-spec : {M : Type 1} → statement M
 set-dims-spec =
     tie.close
     (tie.spec
-    blade-count-requires
+    blades-or-none-requires
     refusal-of-requires
     refused-requires
     returns

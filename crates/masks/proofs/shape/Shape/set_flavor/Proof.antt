@@ -6,6 +6,7 @@ use borrow.Author.Needs.{needs}
 use lib.ListN.{length}
 use Rattle.masks.specs.Outcome.{refusal, laid}
 use Rattle.masks.specs.Shape.{promotes, conformed, setFlavor}
+use Rattle.masks.proofs.OrderLaws.{none-counted}
 use Rattle.masks.proofs.RefusalLaws.{Taken, taken, gives-refused, gives-done}
 use Rattle.masks.proofs.ChangeLaws.{conformed-same, promotes-le, promoted-small, checks, checked, checks-same}
 use Rattle.masks.proofs.shape.Shape.set_flavor.Statement.{statement}
@@ -22,8 +23,8 @@ few c =
 promoted-dims-requires : tie.Need-promoted-dims-requires
 promoted-dims-requires c κs = few c
 
-blade-count-requires : tie.Need-blade-count-requires
-blade-count-requires c κs = search needs
+blades-or-none-requires : tie.Need-blades-or-none-requires
+blades-or-none-requires c κs = search needs
 
 refusal-of-requires : tie.Need-refusal-of-requires
 refusal-of-requires c κs = search needs
@@ -53,7 +54,7 @@ module _ (c : tie.After-refusal-of) where
 
   numbered : c .refusal-of .result ≡ refusal (checks own dims (length (s .args .a .now)) (length (s .args .out .now)) (2 ^ dims))
   numbered =
-      checked _ own (g .promoted-dims .result) (length (s .args .a .now)) (length (s .args .out .now)) _ (c .refusal-of .ensures) (c .before .blade-count .ensures)
+      checked _ own (g .promoted-dims .result) (length (s .args .a .now)) (length (s .args .out .now)) _ (c .refusal-of .ensures) (none-counted (c .before .blades-or-none .ensures))
       ∙ checks-same own (g .promoted-dims .result) dims (length (s .args .a .now)) (length (s .args .out .now)) same
 
 returns : tie.Need-returns
@@ -106,7 +107,7 @@ set-flavor-spec =
     (tie.spec
     promotion-requires
     promoted-dims-requires
-    blade-count-requires
+    blades-or-none-requires
     refusal-of-requires
     refused-requires
     returns

@@ -6,16 +6,15 @@ use lib.ListN.{length}
 use Rattle.masks.specs.Order.{order}
 use Rattle.masks.specs.Shape.{coef}
 use Rattle.masks.specs.Unpack.{unpackAll, unpackRefusal}
-use Rattle.masks.proofs.OrderLaws.{length-order}
+use Rattle.masks.proofs.OrderLaws.{length-order, none-counted}
 use Rattle.masks.proofs.RefusalLaws.{Taken, taken, writes-refused, writes-done}
-use Rattle.masks.proofs.ShapeLaws.{count-small}
 use Rattle.masks.proofs.ChangeLaws.{checked}
 use Rattle.masks.proofs.UnpackLaws.{counts}
 use Rattle.masks.proofs.shape.Shape.unpack_all.Statement.{statement}
 use Rattle.masks.proofs.shape.Shape.unpack_all.Tie as tie
 
-blade-count-requires : tie.Need-blade-count-requires
-blade-count-requires c κs = search needs
+blades-or-none-requires : tie.Need-blades-or-none-requires
+blades-or-none-requires c κs = search needs
 
 refusal-of-requires : tie.Need-refusal-of-requires
 refusal-of-requires c κs = search needs
@@ -25,12 +24,12 @@ module _ (c : tie.After-refusal-of) where
   abbrev s : tie.Start
   s = c .before .before .before .before
 
-  needed : s .args .d ≤ 9 → c .before .blade-count .result ≡ 2 ^ s .args .d
-  needed h = c .before .blade-count .ensures ∙ count-small (s .args .d) h
+  needed : s .args .d ≤ 9 → c .before .blades-or-none .result ≡ 2 ^ s .args .d
+  needed h = none-counted (c .before .blades-or-none .ensures) h
 
   refused : c .refusal-of .result ≡ unpackRefusal (s .args .self .dims) (s .args .d) (s .args .a .now) (length (s .args .out .now)) (2 ^ s .args .d)
   refused =
-      checked _ (s .args .self .dims) (s .args .d) (length (s .args .a .now)) (length (s .args .out .now)) _ (c .refusal-of .ensures) (c .before .blade-count .ensures)
+      checked _ (s .args .self .dims) (s .args .d) (length (s .args .a .now)) (length (s .args .out .now)) _ (c .refusal-of .ensures) (none-counted (c .before .blades-or-none .ensures))
 
 none-requires : tie.Need-none-requires
 none-requires c κs = search needs
@@ -61,7 +60,7 @@ pub unpack-all-spec : {M : Type 1} → statement M
 unpack-all-spec =
     tie.close
     (tie.spec
-    blade-count-requires
+    blades-or-none-requires
     refusal-of-requires
     none-requires
     returns

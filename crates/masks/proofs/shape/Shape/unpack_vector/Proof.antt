@@ -7,8 +7,8 @@ use lib.ListN.{length, take, drop}
 use Rattle.masks.specs.Order.{order}
 use Rattle.masks.specs.Shape.{coef}
 use Rattle.masks.specs.Unpack.{unpackVector}
+use Rattle.masks.proofs.OrderLaws.{built-masks, built-places}
 use Rattle.masks.proofs.RefusalLaws.{Taken, taken, writes-refused, writes-done}
-use Rattle.masks.proofs.ShapeLaws.{holds-masks, holds-places}
 use Rattle.masks.proofs.UnpackLaws.{vector-read, vector-length, counts}
 use Rattle.masks.proofs.shape.Shape.unpack_vector.Statement.{statement}
 use Rattle.masks.proofs.shape.Shape.unpack_vector.Tie as tie
@@ -33,15 +33,15 @@ s c = c .before .before .before .before
 ok : (c : tie.Else1) → Taken (s c .args .self .dims) (s c .args .self .dims) (length (s c .args .a .now)) (length (s c .args .out .now)) (s c .args .self .dims)
 ok c = taken _ _ _ _ _ (sym (c .before .refusal-of .ensures) ∙ c .if1 .left)
 
-order-of-requires : tie.Need-order-of-requires
-order-of-requires c κs = search needs
+sorted-order-requires : tie.Need-sorted-order-requires
+sorted-order-requires c κs = ok c .small
 
 gather-requires : tie.Need-gather-requires
 gather-requires c κs =
     let o = c .before .before .before .before in
     let a = s (o .before) .args in
     let t = ok (o .before) in
-    ((t .small, holds-places _ (a .self .dims) (t .small) (o .order-of .ensures), t .counted), (omega (arith, t .small), omega (arith, t .roomy)))
+    ((t .small, built-places (o .sorted-order .ensures), t .counted), (omega (arith, t .small), omega (arith, t .roomy)))
 
 same-length : tie.Need-same-length
 same-length c = search needs
@@ -54,7 +54,7 @@ returns-2 c =
     let a = s e .args in
     let t = ok e in
     writes-done _ _ _ _ _ _ (e .before .refusal-of .ensures) (e .if1 .left) (counts (a .self .dims) (coef (a .self .dims) (a .a .now)) (take (a .self .dims) (drop 1 (order (a .self .dims)))) (sym (vector-length (a .self .dims))))
-    (vector-read 1024 (a .self .dims) (a .a .now) (lit≤ tt) (a .self .dims) (o .order-of .result .masks) (t .small) (holds-masks _ (a .self .dims) (t .small) (o .order-of .ensures)) (a .out .now) _
+    (vector-read 1024 (a .self .dims) (a .a .now) (lit≤ tt) (a .self .dims) (o .sorted-order .result .masks) (t .small) (built-masks (o .sorted-order .ensures)) (a .out .now) _
     (c .before .before .gather .ensures))
 
 pub unpack-vector-spec : {M : Type 1} → statement M
@@ -65,7 +65,7 @@ unpack-vector-spec =
     refusal-of-requires
     none-requires
     returns
-    order-of-requires
+    sorted-order-requires
     gather-requires
     same-length
     returns-2)
