@@ -45,13 +45,14 @@ fn product_refusal(dims: u8, count: usize, count_right: usize, room: usize) -> u
     if MAX_DIMS < dims {
         return TOO_MANY_DIMS;
     }
-    if count != blade_count(dims) {
+    let n = blade_count(dims).count;
+    if count != n {
         return WRONG_COUNT;
     }
-    if count_right != blade_count(dims) {
+    if count_right != n {
         return WRONG_COUNT;
     }
-    if room < blade_count(dims) {
+    if room < n {
         return NO_ROOM;
     }
     DONE
@@ -62,9 +63,18 @@ fn fill(mode: Mode, flavor: Flavor, dims: u8, a: &[f64], b: &[f64], out: &mut [f
     requires { ⌜ (dims ≤ 9) × (length (now a) ≡ 2 ^ dims) × (length (now b) ≡ 2 ^ dims) × (2 ^ dims ≤ length (now out)) ⌝ }
     ensures { λ _. ⌜ now (out .exit) ≡ laid (product mode flavor dims binary64 (now (a .entry)) (now (b .entry))) (now (out .entry)) ⌝ }
 {
-    let o = order_of(dims);
+    let given = order_of(dims);
     let s = squares_of(flavor_for(mode, flavor));
-    sum_pairs(dims, &o.masks, &o.places, mode, s, a, b, out);
+    sum_pairs(
+        dims,
+        &given.order.masks,
+        &given.order.places,
+        mode,
+        s,
+        a,
+        b,
+        out,
+    );
     snap_all(a.len(), out);
 }
 
@@ -100,7 +110,7 @@ fn multiply_conformed(
         return refused(c.number);
     }
     let shape = c.left;
-    let n = blade_count(shape.dims);
+    let n = blade_count(shape.dims).count;
     if out.len() < n {
         return refused(NO_ROOM);
     }

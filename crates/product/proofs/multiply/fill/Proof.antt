@@ -2,7 +2,7 @@
 use mathlib.Core.Path.{ap, _∙_}
 use lib.ListN.{length}
 use borrow.Author.Needs.{needs}
-use Rattle.masks.proofs.ShapeLaws.{holds-masks, holds-places}
+use Rattle.masks.proofs.OrderLaws.{holds-masks, holds-places}
 use Rattle.product.specs.inner.ByOnes.{squaresBelow}
 use Rattle.product.proofs.SumsLaws.{sums-snapped}
 use Rattle.product.proofs.multiply.fill.Statement.{statement}

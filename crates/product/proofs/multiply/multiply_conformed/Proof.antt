@@ -5,8 +5,7 @@ use native.Mathlib.Omega.{arith}
 use borrow.Author.Needs.{needs}
 use lib.ListN.{length}
 use lib.Seq.{length-take-le}
-use Rattle.masks.proofs.ShapeLaws.{count-small}
-use Rattle.masks.proofs.OrderLaws.{blades-le}
+use Rattle.masks.proofs.OrderLaws.{blades-le, blades-counted}
 use Rattle.product.proofs.MultipliedLaws.{gives-unconformed, conformed-small, gives-no-room, gives-conformed}
 use Rattle.product.proofs.multiply.multiply_conformed.Statement.{statement}
 use Rattle.product.proofs.multiply.multiply_conformed.Tie as tie
@@ -36,13 +35,13 @@ module _ (b : tie.After-blade-count) where
       let q = b .before .before .before .before .before .before .conform in
       conformed-small (a .left) (a .right) (a .a .now) (a .b .now) (q .result) _ _ _ _ (q .ensures) (b .before .before .if1 .left)
 
-  counted : b .blade-count .result ≡ 2 ^ b .before .before .before .before .before .before .conform .result .left .dims
-  counted = b .blade-count .ensures ∙ count-small _ small
+  counted : b .blade-count .result .count ≡ 2 ^ b .before .before .before .before .before .before .conform .result .left .dims
+  counted = blades-counted (b .blade-count .ensures) small
 
-  whole : b .blade-count .result - 0 ≡ 2 ^ b .before .before .before .before .before .before .conform .result .left .dims
+  whole : b .blade-count .result .count - 0 ≡ 2 ^ b .before .before .before .before .before .before .conform .result .left .dims
   whole = omega (arith, counted)
 
-  few : b .blade-count .result ≤ 512
+  few : b .blade-count .result .count ≤ 512
   few = omega (arith, counted, blades-le _ small)
 
 blade-count-requires : tie.Need-blade-count-requires
@@ -54,7 +53,7 @@ refused-requires-2 c κs = search needs
 returns-2 : tie.Need-returns-2
 returns-2 c =
     let a = c .before .before .before .before .before .before .before .before .before .before .before .before .before .before .args in
-    gives-no-room (a .left) (a .right) (a .a .now) (a .b .now) (c .before .before .before .before .before .before .before .before .conform .result) _ _ _ _ (c .before .before .before .before .before .before .before .before .conform .ensures) (c .before .before .before .before .if1 .left) (c .before .before .blade-count .result) (counted (c .before .before)) (a .mode) (length (a .out .now)) (c .refused2 .result) (a .out .now) (c .before .if2 .taken) (c .refused2 .ensures)
+    gives-no-room (a .left) (a .right) (a .a .now) (a .b .now) (c .before .before .before .before .before .before .before .before .conform .result) _ _ _ _ (c .before .before .before .before .before .before .before .before .conform .ensures) (c .before .before .before .before .if1 .left) (c .before .before .blade-count .result .count) (counted (c .before .before)) (a .mode) (length (a .out .now)) (c .refused2 .result) (a .out .now) (c .before .if2 .taken) (c .refused2 .ensures)
 
 sub-multiply-same : tie.Need-sub-multiply-same
 sub-multiply-same c = search needs
@@ -86,7 +85,7 @@ returns-3 : tie.Need-returns-3
 returns-3 c =
     let a = c .before .before .before .before .before .before .before .before .before .before .before .before .before .before .before .before .before .before .before .before .before .args in
     let b = c .before .before .before .before .before .before .before .before .before in
-    gives-conformed (a .left) (a .right) (a .a .now) (a .b .now) (c .before .before .before .before .before .before .before .before .before .before .before .before .before .before .before .conform .result) _ _ _ _ (c .before .before .before .before .before .before .before .before .before .before .before .before .before .before .before .conform .ensures) (c .before .before .before .before .before .before .before .before .before .before .before .if1 .left) (b .blade-count .result - 0) (whole b) (a .mode) (length (a .out .now)) (c .before .before .multiply-same .result) (a .out .now) _ (omega arith) (c .before .before .multiply-same .ensures)
+    gives-conformed (a .left) (a .right) (a .a .now) (a .b .now) (c .before .before .before .before .before .before .before .before .before .before .before .before .before .before .before .conform .result) _ _ _ _ (c .before .before .before .before .before .before .before .before .before .before .before .before .before .before .before .conform .ensures) (c .before .before .before .before .before .before .before .before .before .before .before .if1 .left) (b .blade-count .result .count - 0) (whole b) (a .mode) (length (a .out .now)) (c .before .before .multiply-same .result) (a .out .now) _ (omega arith) (c .before .before .multiply-same .ensures)
 
 pub multiply-conformed-spec : {M : Type 1} → statement M
 multiply-conformed-spec =

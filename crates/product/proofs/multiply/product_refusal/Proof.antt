@@ -5,7 +5,7 @@ use native.Mathlib.Omega.{arith}
 use borrow.Author.Needs.{needs}
 use borrow.Author.Tests.{eq-eqb, ne-eqb, lt-ltb, le-ltb}
 use Rattle.masks.specs.Outcome.{refusal}
-use Rattle.masks.proofs.ShapeLaws.{count-small}
+use Rattle.masks.proofs.OrderLaws.{blades-counted}
 use Rattle.product.proofs.multiply.product_refusal.Statement.{statement}
 use Rattle.product.proofs.multiply.product_refusal.Tie as tie
 
@@ -20,49 +20,43 @@ returns-2 : tie.Need-returns-2
 unfolding refusal
 returns-2 c =
     let d = c .before .before .if1 .left in
-    let b = c .before .blade-count .ensures ∙ count-small _ d in
+    let b = blades-counted (c .before .blade-count .ensures) d in
     simp (le-ltb 9 _ d, ne-eqb _ _ (λ e. c .if2 .taken (e ∙ sym b)))
-
-blade-count-requires-2 : tie.Need-blade-count-requires-2
-blade-count-requires-2 c κs = search needs
 
 -- The value on the left has its count,
 left : (c : tie.Else2) → c .before .before .before .args .count ≡ 2 ^ (c .before .before .before .args .dims)
-left c = c .if2 .left ∙ c .before .blade-count .ensures ∙ count-small _ (c .before .before .if1 .left)
+left c = c .if2 .left ∙ blades-counted (c .before .blade-count .ensures) (c .before .before .if1 .left)
 
 returns-3 : tie.Need-returns-3
 unfolding refusal
 returns-3 c =
-    let t = c .before .before in
+    let t = c .before in
     let d = t .before .before .if1 .left in
-    let b = c .before .blade-count2 .ensures ∙ count-small _ d in
+    let b = blades-counted (t .before .blade-count .ensures) d in
     simp (le-ltb 9 _ d, eq-eqb _ _ (left t), ne-eqb _ _ (λ e. c .if3 .taken (e ∙ sym b)))
 
-blade-count-requires-3 : tie.Need-blade-count-requires-3
-blade-count-requires-3 c κs = search needs
-
 -- and so has the value on the right.
-right : (c : tie.Else3) → c .before .before .before .before .before .args .count-right ≡ 2 ^ (c .before .before .before .before .before .args .dims)
-right c = c .if3 .left ∙ c .before .blade-count2 .ensures ∙ count-small _ (c .before .before .before .before .if1 .left)
+right : (c : tie.Else3) → c .before .before .before .before .args .count-right ≡ 2 ^ (c .before .before .before .before .args .dims)
+right c = c .if3 .left ∙ blades-counted (c .before .before .blade-count .ensures) (c .before .before .before .if1 .left)
 
 returns-4 : tie.Need-returns-4
 unfolding refusal
 returns-4 c =
-    let u = c .before .before in
-    let t = u .before .before in
+    let u = c .before in
+    let t = u .before in
     let a = t .before .before .before .args in
     let d = t .before .before .if1 .left in
-    let h : a .room < 2 ^ (a .dims) = omega (arith, c .before .blade-count3 .ensures ∙ count-small _ d) in
+    let h : a .room < 2 ^ (a .dims) = omega (arith, blades-counted (t .before .blade-count .ensures) d) in
     simp (le-ltb 9 _ d, eq-eqb _ _ (left t), eq-eqb _ _ (right u), lt-ltb _ _ h)
 
 returns-5 : tie.Need-returns-5
 unfolding refusal
 returns-5 c =
-    let u = c .before .before in
-    let t = u .before .before in
+    let u = c .before in
+    let t = u .before in
     let a = t .before .before .before .args in
     let d = t .before .before .if1 .left in
-    let h : 2 ^ (a .dims) ≤ a .room = omega (arith, c .before .blade-count3 .ensures ∙ count-small _ d) in
+    let h : 2 ^ (a .dims) ≤ a .room = omega (arith, blades-counted (t .before .blade-count .ensures) d) in
     simp (le-ltb 9 _ d, eq-eqb _ _ (left t), eq-eqb _ _ (right u), le-ltb _ _ h)
 
 pub product-refusal-spec : {M : Type 1} → statement M
@@ -72,8 +66,6 @@ product-refusal-spec =
     returns
     blade-count-requires
     returns-2
-    blade-count-requires-2
     returns-3
-    blade-count-requires-3
     returns-4
     returns-5)
