@@ -24,7 +24,8 @@ pub(crate) fn kept_refusal(shape: Shape, a: &[f64], room: usize) -> u8
     ensures { λ r. ⌜ r ≡ keptRefusal shape (now (a .entry)) room ⌝ }
 {
     let dims = shape.dims;
-    refusal_of(dims, dims, a.len(), room, blade_count(dims))
+    let needed = blade_count(dims).count;
+    refusal_of(dims, dims, a.len(), room, needed)
 }
 
 // The dual, at the front of the output.
@@ -86,7 +87,7 @@ fn put_regressive(left: Shape, right: Shape, a: &[f64], b: &[f64], out: &mut [f6
     put_dual(right, b, &mut y);
     let p = outer_product(left, right, &x[0..a.len()], &y[0..b.len()], &mut z);
     let shape = p.shape;
-    let n = blade_count(shape.dims);
+    let n = blade_count(shape.dims).count;
     put_antidual(shape, &z[0..n], out);
     done(shape)
 }

@@ -85,9 +85,9 @@ pub fn squared_magnitude(shape: Shape, a: &[f64]) -> Real
             value: 0.0,
         };
     }
-    let o = order_of(shape.dims);
+    let given = order_of(shape.dims);
     let flavor = shape.flavor;
-    let value = sum_squares(flavor, shape.dims, &o.masks, a);
+    let value = sum_squares(flavor, shape.dims, &given.order.masks, a);
     Real {
         number: DONE,
         value,

@@ -33,7 +33,8 @@ pub enum Sum {
 fn is_other(shape: Shape, b: &[f64]) -> bool
     ensures { λ r. ⌜ (shape .dims ≤ 9 → r ≡ isOther shape (now (b .entry))) ⌝ }
 {
-    b.len() == blade_count(shape.dims) && !is_scalar(b)
+    let n = blade_count(shape.dims).count;
+    b.len() == n && !is_scalar(b)
 }
 
 // The dimensions that two values meet in, the right one promoted only where `other` says so; 10, which is refused, where
@@ -87,7 +88,8 @@ fn mul_scalar(left: Shape, right: Shape, f: f64, a: &[f64], out: &mut [f64]) -> 
     let r = left.conform_to(right, a, out);
     if r.number == DONE {
         let shape = r.shape;
-        scale(blade_count(shape.dims), f, out);
+        let n = blade_count(shape.dims).count;
+        scale(n, f, out);
     }
     r
 }
@@ -160,7 +162,7 @@ fn add_other(op: Sum, left: Shape, right: Shape, a: &[f64], b: &[f64], out: &mut
         return refused(c.number);
     }
     let shape = c.left;
-    let n = blade_count(shape.dims);
+    let n = blade_count(shape.dims).count;
     sum_each(op, &y[0..n], out);
     done(shape)
 }

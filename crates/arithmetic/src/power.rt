@@ -64,7 +64,8 @@ fn power_refusal(shape: Shape, power: i32, a: &[f64], room: usize) -> u8
     ensures { λ r. ⌜ r ≡ powerRefusal shape power (now (a .entry)) room ⌝ }
 {
     let n = power_dims(shape, power);
-    let no = refusal_of(shape.dims, n, a.len(), room, blade_count(n));
+    let needed = blade_count(n).count;
+    let no = refusal_of(shape.dims, n, a.len(), room, needed);
     if no != DONE {
         return no;
     }
@@ -83,7 +84,7 @@ fn mul_front(grown: Shape, shape: Shape, x: &[f64], out: &mut [f64])
     requires { ⌜ (length (now x) ≡ 2 ^ (shape .dims)) × (2 ^ (grown .dims) ≤ length (now out)) ⌝ }
     ensures { λ _. ⌜ now (out .exit) ≡ laid (multiplication grown shape (take (2 ^ (grown .dims)) (now (out .entry))) (now (x .entry)) 512 .coefs) (now (out .entry)) ⌝ }
 {
-    let n = blade_count(grown.dims);
+    let n = blade_count(grown.dims).count;
     let mut next = [0.0; 512];
     mul(grown, shape, &out[0..n], x, &mut next);
     grown.set_dims(grown.dims, &next[0..n], out);

@@ -1,6 +1,7 @@
 -- `arithmetic::dual::kept_refusal` meets its contract: its tests are those of a change to the value's own dimensions. Assumes nothing.
 use mathlib.Core.Path.{_∙_}
 use borrow.Author.Needs.{needs}
+use Rattle.masks.proofs.OrderLaws.{blades-counted}
 use Rattle.masks.proofs.ChangeLaws.{checked}
 use Rattle.arithmetic.proofs.KeptLaws.{kept-tests}
 use Rattle.arithmetic.proofs.dual.kept_refusal.Statement.{statement}
@@ -15,7 +16,7 @@ refusal-of-requires c κs = search needs
 returns : tie.Need-returns
 returns c =
     let a = c .before .before .before .args in
-    checked _ (a .shape .dims) (a .shape .dims) _ _ _ (c .refusal-of .ensures) (c .before .blade-count .ensures) ∙ kept-tests (a .shape) (a .a .now) (a .room)
+    checked _ (a .shape .dims) (a .shape .dims) _ _ _ (c .refusal-of .ensures) (blades-counted (c .before .blade-count .ensures)) ∙ kept-tests (a .shape) (a .a .now) (a .room)
 
 pub kept-refusal-spec : {M : Type 1} → statement M
 kept-refusal-spec = tie.close (tie.spec blade-count-requires refusal-of-requires returns)

@@ -5,8 +5,7 @@ use native.Mathlib.Omega.{arith}
 use borrow.Author.Needs.{needs}
 use lib.ListN.{length}
 use lib.Seq.{length-take-le}
-use Rattle.masks.proofs.OrderLaws.{blades-le}
-use Rattle.masks.proofs.ShapeLaws.{count-small}
+use Rattle.masks.proofs.OrderLaws.{blades-le, blades-counted}
 use Rattle.arithmetic.specs.Dual.{meetingDims}
 use Rattle.arithmetic.proofs.RegressiveLaws.{Meets, meeting-shape, gives-regressive}
 use Rattle.arithmetic.proofs.dual.put_regressive.Statement.{statement}
@@ -67,10 +66,10 @@ module _ (b : tie.After-blade-count) where
   small : b .before .before .before .outer-product .result .shape .dims ≤ 9
   small = omega (arith, dims, met .result)
 
-  counted : b .blade-count .result - 0 ≡ 2 ^ b .before .before .before .outer-product .result .shape .dims
-  counted = omega (arith, b .blade-count .ensures, count-small _ small)
+  counted : b .blade-count .result .count - 0 ≡ 2 ^ b .before .before .before .outer-product .result .shape .dims
+  counted = omega (arith, blades-counted (b .blade-count .ensures) small)
 
-  few : b .blade-count .result ≤ 512
+  few : b .blade-count .result .count ≤ 512
   few = omega (arith, counted, blades-le _ small)
 
 sub-put-antidual : tie.Need-sub-put-antidual
@@ -98,7 +97,7 @@ returns c =
     let b = c .before .before .before .before .before .before .before in
     let a = s b .args in
     let p = b .before .before .before .outer-product in
-    gives-regressive (a .left) (a .right) (a .a .now) (a .b .now) (length (a .out .now)) (met b) (p .result) _ _ _ _ _ _ (b .before .before .before .before .before .before .before .before .before .before .before .before .before .put-dual .ensures) (b .before .before .before .before .before .before .before .before .before .before .put-dual2 .ensures) (p .ensures) (b .blade-count .result - 0) (c .done .result) (a .out .now) _ (counted b) (c .done .ensures) (c .before .before .before .put-antidual .ensures)
+    gives-regressive (a .left) (a .right) (a .a .now) (a .b .now) (length (a .out .now)) (met b) (p .result) _ _ _ _ _ _ (b .before .before .before .before .before .before .before .before .before .before .before .before .before .put-dual .ensures) (b .before .before .before .before .before .before .before .before .before .before .put-dual2 .ensures) (p .ensures) (b .blade-count .result .count - 0) (c .done .result) (a .out .now) _ (counted b) (c .done .ensures) (c .before .before .before .put-antidual .ensures)
 
 pub put-regressive-spec : {M : Type 1} → statement M
 put-regressive-spec =

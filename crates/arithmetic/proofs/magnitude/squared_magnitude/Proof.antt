@@ -6,7 +6,7 @@ use lib.Ieee.{ofBits, ofFields}
 use lib.ListN.{length}
 use Rattle.masks.specs.Outcome.{refusedReal}
 use Rattle.masks.proofs.RefusalLaws.{unless-refused, unless-done}
-use Rattle.masks.proofs.ShapeLaws.{holds-masks}
+use Rattle.masks.proofs.OrderLaws.{holds-masks}
 use Rattle.masks.proofs.BladeLaws.{Valued, valued}
 use Rattle.arithmetic.specs.Magnitude.{squaredMagnitude}
 use Rattle.arithmetic.proofs.magnitude.squared_magnitude.Statement.{statement}

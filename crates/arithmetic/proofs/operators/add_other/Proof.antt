@@ -11,8 +11,7 @@ use Rattle.masks.specs.declared.outcome.Answers.{Answers}
 use Rattle.masks.specs.Outcome.{Pair, Gives, GivesBoth, unless, answerOf, value, refusedValue, refusedPair, laid}
 use Rattle.masks.specs.Shape.{conformedShape, conform}
 use Rattle.masks.proofs.ListLaws.{take-laid}
-use Rattle.masks.proofs.OrderLaws.{blades-le}
-use Rattle.masks.proofs.ShapeLaws.{count-small}
+use Rattle.masks.proofs.OrderLaws.{blades-le, blades-counted}
 use Rattle.masks.proofs.ChangeLaws.{paired, conform-dims, conform-lengths}
 use Rattle.product.proofs.RefusalLaws.{meeting}
 use Rattle.product.proofs.PlacesLaws.{laid-over}
@@ -120,10 +119,10 @@ module _ (b : tie.After-blade-count) where
   few : done .conform .result .left .dims ≤ 9
   few = small _ _ _ _ _ _ _ _ _ _ (done .conform .ensures) (b .before .before .if1 .left)
 
-  counted : b .blade-count .result ≡ 2 ^ done .conform .result .left .dims
-  counted = b .blade-count .ensures ∙ count-small _ few
+  counted : b .blade-count .result .count ≡ 2 ^ done .conform .result .left .dims
+  counted = blades-counted (b .blade-count .ensures) few
 
-  whole : b .blade-count .result - 0 ≡ 2 ^ done .conform .result .left .dims
+  whole : b .blade-count .result .count - 0 ≡ 2 ^ done .conform .result .left .dims
   whole = omega (arith, counted)
 
 blade-count-requires : tie.Need-blade-count-requires
@@ -141,7 +140,7 @@ part-sum-each-end c = omega (arith, counted (c .before), blades-le _ (few (c .be
 sum-each-requires : tie.Need-sum-each-requires
 sum-each-requires c κs =
     let b = c .before .before .before in
-    fits _ _ _ _ _ _ _ _ _ _ (done b .conform .ensures) (b .before .before .if1 .left) (b .blade-count .result - 0) (whole b)
+    fits _ _ _ _ _ _ _ _ _ _ (done b .conform .ensures) (b .before .before .if1 .left) (b .blade-count .result .count - 0) (whole b)
 
 done-requires : tie.Need-done-requires
 done-requires c κs = search needs
@@ -152,7 +151,7 @@ same-length-2 c = search needs
 returns-2 : tie.Need-returns-2
 returns-2 c =
     let b = c .before .before .before .before .before .before .before in
-    sum-over _ _ _ _ _ _ _ _ _ _ (done b .conform .ensures) (b .before .before .if1 .left) (b .blade-count .result - 0) (whole b)
+    sum-over _ _ _ _ _ _ _ _ _ _ (done b .conform .ensures) (b .before .before .if1 .left) (b .blade-count .result .count - 0) (whole b)
     (done b .before .before .before .before .before .before .args .op) (c .done .result) _ (c .done .ensures) (c .before .before .before .sum-each .ensures)
 
 pub add-other-spec : {M : Type 1} → statement M

@@ -5,7 +5,7 @@ use mathlib.Core.List.{[], map}
 use Prim.Native.Nat.{_^_}
 use native.Mathlib.Omega.{arith}
 use lib.Ieee.{Float, binary64, eq, mul}
-use Rattle.masks.proofs.ShapeLaws.{count-small}
+use Rattle.masks.proofs.OrderLaws.{blades-counted}
 use Rattle.arithmetic.specs.Scale.{unity, scaled}
 use Rattle.arithmetic.proofs.KeptLaws.{scaled-length}
 use Rattle.arithmetic.proofs.OperatorLaws.{conformed-facts, changed-none, changed}
@@ -33,8 +33,8 @@ module _ (b : tie.After-blade-count) where
   abbrev done : tie.After-conform-to
   done = b .before .before .before .before .before .before
 
-  counted : b .blade-count .result ≡ 2 ^ done .conform-to .result .shape .dims
-  counted = b .blade-count .ensures ∙ count-small _ (conformed-facts _ _ _ _ _ _ (done .conform-to .ensures) (b .before .before .if1 .taken) .small)
+  counted : b .blade-count .result .count ≡ 2 ^ done .conform-to .result .shape .dims
+  counted = blades-counted (b .blade-count .ensures) (conformed-facts _ _ _ _ _ _ (done .conform-to .ensures) (b .before .before .if1 .taken) .small)
 
 scale-requires : tie.Need-scale-requires
 scale-requires c κs = omega (arith, counted (c .before), conformed-facts _ _ _ _ _ _ (done (c .before) .conform-to .ensures) (c .before .before .before .if1 .taken) .roomy)
@@ -46,7 +46,7 @@ returns : tie.Need-returns
 returns c =
     let b = c .before .before .before .before in
     let f = b .before .before .before .before .before .before .before .before .before .before .args .f in
-    changed _ _ _ _ _ _ (done b .conform-to .ensures) (scaled f) (b .blade-count .result) _ (b .before .before .if1 .taken) (counted b) (scaled-length f) (c .before .before .scale .ensures)
+    changed _ _ _ _ _ _ (done b .conform-to .ensures) (scaled f) (b .blade-count .result .count) _ (b .before .before .if1 .taken) (counted b) (scaled-length f) (c .before .before .scale .ensures)
 
 same-length-2 : tie.Need-same-length-2
 same-length-2 c = search needs

@@ -12,8 +12,7 @@ use Rattle.masks.specs.declared.shape.Shape.{Shape}
 use Rattle.masks.specs.Flavor.{addedDims}
 use Rattle.masks.specs.Outcome.{Gives, laid}
 use Rattle.masks.specs.Shape.{withDims, setDims}
-use Rattle.masks.proofs.OrderLaws.{blades-le}
-use Rattle.masks.proofs.ShapeLaws.{count-small}
+use Rattle.masks.proofs.OrderLaws.{blades-le, blades-counted}
 use Rattle.arithmetic.specs.Operators.{multiplication}
 use Rattle.arithmetic.proofs.PowerLaws.{copied-on, grown-length}
 use Rattle.arithmetic.proofs.power.mul_front.Statement.{statement}
@@ -28,10 +27,10 @@ replaced g s n x buf held out after q r e h c k m f t =
     ∙ ap (λ (j : ℕ). laid (multiplication g s (take j out) x 512 .coefs) out) c
 
 module _ (c : tie.After-blade-count) where
-  counted : c .blade-count .result ≡ 2 ^ c .before .before .before .args .grown .dims
-  counted = c .blade-count .ensures ∙ count-small _ (c .before .before .before .pre .0 .1)
+  counted : c .blade-count .result .count ≡ 2 ^ c .before .before .before .args .grown .dims
+  counted = blades-counted (c .blade-count .ensures) (c .before .before .before .pre .0 .1)
 
-  few : c .blade-count .result ≤ 512
+  few : c .blade-count .result .count ≤ 512
   few = omega (arith, counted, blades-le _ (c .before .before .before .pre .0 .1))
 
 blade-count-requires : tie.Need-blade-count-requires
@@ -72,8 +71,8 @@ returns c =
     let b = c .before .before .before .before .before .before .before .before .before .before .before in
     let s = b .before .before .before in
     let m = c .before .before .before .before .before .before .before .mul in
-    let n : b .blade-count .result - 0 ≡ 2 ^ s .args .grown .dims = omega (arith, counted b) in
-    replaced (s .args .grown) (s .args .shape) (b .blade-count .result - 0) (s .args .x .now) _ _ (s .args .out .now) _ (m .result) (c .before .before .set-dims .result)
+    let n : b .blade-count .result .count - 0 ≡ 2 ^ s .args .grown .dims = omega (arith, counted b) in
+    replaced (s .args .grown) (s .args .shape) (b .blade-count .result .count - 0) (s .args .x .now) _ _ (s .args .out .now) _ (m .result) (c .before .before .set-dims .result)
     (s .pre .0 .0) (s .pre .0 .1) n (s .pre .1 .0) (s .pre .1 .1) (m .ensures) (c .before .before .set-dims .ensures)
 
 pub mul-front-spec : {M : Type 1} → statement M

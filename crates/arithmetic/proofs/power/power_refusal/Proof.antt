@@ -14,6 +14,7 @@ use mir.Val.{SFits, ofZ}
 use mir.ValLaws.{toZ-ofZ}
 use Rattle.masks.specs.declared.shape.Shape.{Shape}
 use Rattle.masks.specs.Outcome.{refusal}
+use Rattle.masks.proofs.OrderLaws.{blades-counted}
 use Rattle.masks.proofs.ChangeLaws.{checks, checked, checks-same}
 use Rattle.masks.proofs.RefusalLaws.{taken, refused-already}
 use Rattle.arithmetic.specs.Scalar.{testOf, wasPlanar}
@@ -48,7 +49,7 @@ module _ (c : tie.After-refusal-of) where
 
   number : c .refusal-of .result ≡ changes
   number =
-      checked _ (s .dims) (c .before .before .power-dims .result) (length xs) (a .args .room) _ (c .refusal-of .ensures) (c .before .blade-count .ensures)
+      checked _ (s .dims) (c .before .before .power-dims .result) (length xs) (a .args .room) _ (c .refusal-of .ensures) (blades-counted (c .before .blade-count .ensures))
       ∙ checks-same (s .dims) _ n (length xs) (a .args .room)
       (λ l. c .before .before .power-dims .ensures l ∙ ap (λ (y : ℤ). powerDims s (sizeOf y)) (toZ-ofZ w32 z (a .fits .power)))
 
