@@ -77,7 +77,8 @@ pub(crate) fn blades_of(shapes: Shapes, n: usize) -> usize
     let mut i: usize = 0;
     while i < n {
         let s = shapes.held[i];
-        sum += blade_count(s.dims);
+        let count = blade_count(s.dims).count;
+        sum += count;
         i += 1;
     }
     sum

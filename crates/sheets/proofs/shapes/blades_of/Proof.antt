@@ -8,10 +8,10 @@ use lib.ListN.{length, getD, take, length-map}
 use lib.Seq.{length-take-le, take-take, getD-take}
 use Rattle.masks.specs.declared.flavor.Flavor.the-variants.{Vanilla}
 use Rattle.masks.specs.declared.shape.Shape.{Shape}
+use Rattle.masks.specs.declared.outcome.Count.{Count}
 use Rattle.masks.specs.Order.{bladeCount}
 use Rattle.masks.specs.Outcome.{shapeOf}
-use Rattle.masks.proofs.OrderLaws.{blades-le}
-use Rattle.masks.proofs.ShapeLaws.{count-small}
+use Rattle.masks.proofs.OrderLaws.{blades-le, blades-counted}
 use Rattle.sheets.specs.Format.{anyAboveNine, bladeTotal}
 use Rattle.sheets.proofs.FormatLaws.{above-take, dims-at, bladesOf-le}
 use Rattle.sheets.proofs.ValuesLaws.{start-next}
@@ -27,8 +27,8 @@ module _ (ss : List Shape) (n i : ℕ) (few : n ≤ length ss) (small : anyAbove
       rw (← (getD-take n ss i (shapeOf 0 Vanilla) h)) (dims-at i (take n ss) (omega (arith, length-take-le n ss few)) small)
 
   -- the next shape's coefficients
-  count-next : (k : ℕ) → i < n → k ≡ bladeCount (at ss i .dims) → k ≡ 2 ^ at ss i .dims
-  count-next k h e = e ∙ count-small (at ss i .dims) (dims-small h)
+  count-next : (c : Count) → i < n → c ≡ bladeCount (at ss i .dims) → c .count ≡ 2 ^ at ss i .dims
+  count-next c h e = blades-counted e (dims-small h)
 
   sum-small : i ≤ n → bladeTotal (take i ss) ≤ 512 * i
   sum-small h =
