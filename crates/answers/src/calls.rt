@@ -60,12 +60,13 @@ fn grade_size(ins: &[u64; 16], outs: &mut [u64; 16]) -> usize {
 }
 
 fn blade_count(ins: &[u64; 16], outs: &mut [u64; 16]) -> usize {
-    outs[0] = order::blade_count(byte(ins[0])) as u64;
+    outs[0] = order::blade_count(byte(ins[0])).count as u64;
     1
 }
 
 fn order_of(ins: &[u64; 16], out: &mut [f64], right: &mut [f64], outs: &mut [u64; 16]) -> usize {
-    let o = order::order_of(byte(ins[0]));
+    let given = order::order_of(byte(ins[0]));
+    let o = given.order;
     put_masks(&o.masks, out);
     put_masks(&o.places, right);
     outs[0] = o.dims as u64;

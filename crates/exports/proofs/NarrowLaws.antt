@@ -3,13 +3,13 @@ use mathlib.Core.Path.{_≡_, sym, ap, _∙_}
 use mathlib.Core.List.{List, [], map}
 use Prim.Native.Nat.{ℕ, zero, suc, _^_}
 use lib.Ieee.{Float}
-use Rattle.masks.specs.Order.{order, place, upFrom, taken}
+use Rattle.masks.specs.Order.{order, place, upFrom}
 use Rattle.masks.specs.Outcome.{Outcome, Pair, Written, unless, laid}
 use Rattle.product.specs.Products.{Counted}
 use Rattle.arithmetic.specs.Kept.{Halves}
 use Rattle.sheets.specs.Read.{ReadOutcome}
 use Rattle.exports.specs.Told.{told, Tells, TellsValue, TellsPair, TellsProduct, TellsTaken, TellsList}
-use Rattle.exports.specs.Parts.{TellsOrderOf, TellsSheet}
+use Rattle.exports.specs.Parts.{taken, TellsOrderOf, TellsSheet}
 
 -- A refused call leaves its references as they were.
 pub refused-keeps : {A : Type 0} (k : ℕ) {x : A} {r : ℕ} {held holds : A} → (r ≡ 0 → ⊥) → Tells k x r held holds → holds ≡ held

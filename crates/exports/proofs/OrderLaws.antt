@@ -8,13 +8,13 @@ use lib.ListN.{length, length-map, take}
 use lib.Seq.{take-at}
 use borrow.Author.Tests.{lt-ltb, le-ltb}
 use Rattle.masks.specs.declared.order.Order.{Order}
-use Rattle.masks.specs.Order.{order, place, upFrom, placesOf, held, orderFor, taken, bladeCount}
+use Rattle.masks.specs.Order.{order, place, upFrom, placesOf, held, orderFor, bladeCount}
 use Rattle.masks.specs.Outcome.{refusal, unless, laid}
 use Rattle.masks.proofs.ListLaws.{split}
 use Rattle.masks.proofs.OrderLaws.{blades-le, take-masks, up-length}
 use Rattle.masks.proofs.PassLaws.{masks-length, places-length}
 use Rattle.exports.specs.Told.{told}
-use Rattle.exports.specs.Parts.{orderRefusal, TellsOrderOf}
+use Rattle.exports.specs.Parts.{taken, orderRefusal, TellsOrderOf}
 
 -- ---- the record that is copied
 

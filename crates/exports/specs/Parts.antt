@@ -1,11 +1,11 @@
 -- What a call has on numbers that it has not on records: the order in two outputs, the shapes of a sheet as bytes. Assumes nothing.
 use mathlib.Core.Path.{_≡_}
-use mathlib.Core.Bool.{not}
+use mathlib.Core.Bool.{not, cond}
 use mathlib.Core.List.{List, [], _∷_, map}
 use Prim.Native.Nat.{ℕ, _*_, _/_, _%_, _^_, min}
-use lib.Dec.{eqb}
+use lib.Dec.{eqb, ltb}
 use lib.ListN.{length, take, drop}
-use Rattle.masks.specs.Order.{order, place, upFrom, taken}
+use Rattle.masks.specs.Order.{order, place, upFrom}
 use Rattle.masks.specs.Outcome.{Test, Written, refusal, noRoom, unless, refusedList, laid}
 use Rattle.sheets.specs.declared.shapes.Shapes.{Shapes}
 use Rattle.sheets.specs.declared.shapes.Placed.{Placed}
@@ -19,6 +19,10 @@ use Rattle.sheets.specs.Write.{writeSheet}
 use Rattle.exports.specs.Told.{Tells}
 
 -- ---- the order
+
+-- A number of dimensions above 9 is refused, and no dimensions are taken for it.
+abbrev pub taken : ℕ → ℕ
+taken d = cond (ltb 9 d) 0 d
 
 -- 3: The output of the masks, or that of the places, is shorter than their number.
 unfoldable pub orderRefusal : ℕ → ℕ → ℕ → ℕ

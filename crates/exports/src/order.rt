@@ -28,9 +28,9 @@ fn copy_masks(from: &[u16; 512], n: usize, to: &mut [u16])
 // How many blades there are, none where the dimensions are above 9.
 #[no_mangle]
 pub extern "C" fn thresholm_blade_count(dims: u8) -> usize
-    ensures { λ r. ⌜ r ≡ bladeCount dims ⌝ }
+    ensures { λ r. ⌜ r ≡ bladeCount dims .count ⌝ }
 {
-    blade_count(dims)
+    blade_count(dims).count
 }
 
 // The size of a grade: 0 for a grade above the dimensions.
@@ -51,8 +51,9 @@ pub extern "C" fn thresholm_order_of(
 ) -> u8
     ensures { λ r. ⌜ TellsOrderOf dims r (now (masks .entry)) (now (masks .exit)) (now (places .entry)) (now (places .exit)) (now («to_count» .entry)) (now («to_count» .exit)) ⌝ }
 {
-    let order = order_of(dims);
-    let count = blade_count(order.dims);
+    let given = order_of(dims);
+    let order = given.order;
+    let count = blade_count(order.dims).count;
     if masks.len() < count {
         return NO_ROOM;
     }
