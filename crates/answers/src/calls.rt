@@ -17,7 +17,7 @@ use masks::flavor::Flavor;
 use masks::flavor::Metric;
 use masks::order;
 use masks::outcome;
-use product::multiply;
+use product::products;
 
 // Numbers below 2 ^ 16 as an output.
 fn put_masks(masks: &[u16; 512], out: &mut [f64]) {
@@ -307,11 +307,11 @@ fn make_product(
     let s = shape_in(ins);
     let t = second_shape(ins);
     match op {
-        27 => put_product(multiply::general_product(s, t, a, b, out), outs),
-        28 => put_product(multiply::left_contraction(s, t, a, b, out), outs),
-        29 => put_product(multiply::right_contraction(s, t, a, b, out), outs),
-        30 => put_product(multiply::inner_product(s, t, a, b, out), outs),
-        _ => put_product(multiply::outer_product(s, t, a, b, out), outs),
+        27 => put_product(products::general_product(s, t, a, b, out), outs),
+        28 => put_product(products::left_contraction(s, t, a, b, out), outs),
+        29 => put_product(products::right_contraction(s, t, a, b, out), outs),
+        30 => put_product(products::inner_product(s, t, a, b, out), outs),
+        _ => put_product(products::outer_product(s, t, a, b, out), outs),
     }
 }
 

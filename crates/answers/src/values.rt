@@ -7,6 +7,7 @@ use super::shapes::shape_in;
 use arithmetic::compare;
 use arithmetic::dual;
 use arithmetic::inverse;
+use arithmetic::kept;
 use arithmetic::magnitude;
 use arithmetic::operators;
 use arithmetic::outcome::Ordering;
@@ -57,7 +58,7 @@ fn take_scalar(
     right: &mut [f64],
     outs: &mut [u64; 16],
 ) -> usize {
-    let r = scalar::take_scalar(shape_in(ins), a, out);
+    let r = kept::take_scalar(shape_in(ins), a, out);
     let s = r.shape;
     outs[0] = r.number as u64;
     put_shape(s, outs);
@@ -159,6 +160,6 @@ pub fn make_one(
         47 => put_answer(inverse::inverted(s, a, out), outs),
         48 => powi(ins, a, out, outs),
         51 => take_scalar(ins, a, out, right, outs),
-        _ => put_answer(scalar::make_scalar_only(s, a, out), outs),
+        _ => put_answer(kept::make_scalar_only(s, a, out), outs),
     }
 }

@@ -52,16 +52,16 @@ use Rattle.product.specs.Accuracy as Accuracy
 use Rattle.product.specs.Accuracy.{Fitting, Holds, Multiples, ExactCase, IsExactly, EqualNumbers, valueIn, exactSizeAt, exactValueAt, contributes, exactSizes, exactSum}
 use Rattle.product.proofs.MetricSigns.{metric-unital}
 use Rattle.product.proofs.PairsTotal.{total-pick}
-use Rattle.product.proofs.MultipliedLaws.{multiplied-same}
-use Rattle.product.proofs.ExactLaws.{exact-sum-whole}
-use Rattle.product.proofs.GroupingLaws.{times-holds, times-exact}
-use Rattle.product.proofs.ScaleLaws.{whole-ext, equal-numbers}
-use Rattle.product.proofs.ReversedLaws.{whole-negated, value-negated, reversed-size, reversed-sizes}
+use Rattle.product.proofs.ProductsLaws.{multiplied-same}
+use Rattle.product.proofs.AccuracyExact.{exact-sum-whole}
+use Rattle.product.proofs.AccuracyGrouping.{times-holds, times-exact}
+use Rattle.product.proofs.AccuracyUnits.{whole-ext, equal-numbers}
+use Rattle.product.proofs.ReverseLaws.{whole-negated, value-negated, reversed-size, reversed-sizes}
 use Rattle.arithmetic.specs.Scale.{unity}
 use Rattle.arithmetic.specs.Dual.{ample, pseudoUnit, dualOf, dual, antidualOf, antidual}
-use Rattle.arithmetic.proofs.KeptLaws.{KeptFits, kept-value}
-use Rattle.arithmetic.proofs.RegressiveLaws.{unit-length, dual-length}
-use Rattle.arithmetic.proofs.TimesLaws.{star-exact}
+use Rattle.arithmetic.proofs.KeptLaws.{Accepted, kept-value}
+use Rattle.arithmetic.proofs.DualRegressive.{unit-length, dual-length}
+use Rattle.arithmetic.proofs.AccuracyLaws.{star-exact}
 
 -- The sign that grade g gets, as a number of sign changes: I a I is a, g (d - 1) + d (d - 1) / 2 times negated.
 abbrev pub turnsBack : ℕ → ℕ → ℕ
@@ -436,7 +436,7 @@ dual-antidual s a room p f h m l n k i =
     let d = s .dims in
     let t = turnsBack d (ones (maskAt d k)) in
     let b = eqb (t % 2) 1 in
-    let fits : (xs : List Float) → length xs ≡ 2 ^ d → KeptFits s xs room = λ xs c. record { small = f .small; counted = c; roomy = f .roomy } in
+    let fits : (xs : List Float) → length xs ≡ 2 ^ d → Accepted s xs room = λ xs c. record { small = f .small; counted = c; roomy = f .roomy } in
     let e = back-exact d a p (f .small) h m l n k i in
     rw (kept-value (dualOf d) s a room (fits a (h .many)), kept-value (antidualOf d) s (dualOf d a) room (fits (dualOf d a) (dual-length d a)))
     (equal-numbers p _ _ (e .0) (whole-negated b p (getD a k nan) (m k i)) (e .1 ∙ sign-value t (exactValueAt p a k) ∙ sym (value-negated b p (getD a k nan))))

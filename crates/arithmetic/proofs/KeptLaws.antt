@@ -1,37 +1,32 @@
 -- Calls on one value that keep its shape: a copy of the value, changed where it lies. Assumes nothing.
 use mathlib.Core.Path.{_≡_, refl, sym, ap, subst, _∙_}
 use mathlib.Core.Bool.{Bool, true, false, cond}
-use mathlib.Core.List.{List, _++_, map}
+use mathlib.Core.List.{List, [], _++_, map}
 use Prim.Native.Nat.{ℕ, zero, suc, _+_, _-_, _^_, _≤_, _<_}
 use native.Mathlib.Nat.{zero-add}
 use native.Mathlib.Omega.{arith}
 use borrow.Author.Tests.{le-ltb, eq-eqb}
 use lib.Ieee.{Float, nan, eq, mul, binary64}
-use lib.ListN.{length, getD, set, take, drop, replicate, length-map, length-append, length-take, length-set, length-replicate, take-append-drop}
+use lib.ListN.{length, getD, set, take, drop, replicate, length-map, length-append, length-take, length-set, length-replicate, take-append-drop, List·getD-append}
 use lib.Seq.{drop-at, length-take-le, set-append-left}
 use Rattle.masks.specs.declared.shape.Shape.{Shape}
 use Rattle.masks.specs.declared.outcome.Answer.{Answer}
-use Rattle.masks.specs.Outcome.{Outcome, Gives, laid, refusal, tooMany, unless, value, refusedValue, nought}
+use Rattle.masks.specs.Outcome.{Outcome, Gives, laid, refusal, tooMany, unless, value, refusedValue, answerOf, nought}
 use Rattle.masks.specs.Shape.{setDims}
 use Rattle.masks.proofs.ListLaws.{take-laid, front, front-length, front-step, front-all}
-use Rattle.masks.proofs.RefusalLaws.{taken, later-same, refused-later, unless-done, gives-done}
+use Rattle.masks.proofs.RefusalLaws.{taken, later-same, refused-later, unless-done, gives-refused, gives-done}
 use Rattle.masks.proofs.ShapeLaws.{resized-same, part-length, part-at}
 use Rattle.masks.proofs.ChangeLaws.{checks, not-refused}
-use Rattle.product.proofs.PlacesLaws.{front-next}
+use Rattle.product.proofs.ListLaws.{front-next, laid-over}
 use Rattle.arithmetic.specs.declared.outcome.Taken.{Taken}
-use Rattle.arithmetic.specs.Kept.{keptRefusal, kept, scalarOnly, Halves, GivesTaken}
+use Rattle.arithmetic.specs.Kept.{keptTests, kept, scalarOnly, Halves, GivesTaken}
 use Rattle.arithmetic.specs.Scale.{unity, scaled}
 
 -- What a call may rest on where it is not refused.
-pub record KeptFits (s : Shape) (a : List Float) (room : ℕ) : Type 0 where
+pub record Accepted (s : Shape) (a : List Float) (room : ℕ) : Type 0 where
   pub small : s .dims ≤ 9
   pub counted : length a ≡ 2 ^ s .dims
   pub roomy : 2 ^ s .dims ≤ room
-
--- What was written over what was written as long.
-pub laid-again : (xs ys out : List Float) → length xs ≡ length ys → laid xs (laid ys out) ≡ laid xs out
-laid-again xs ys out e =
-    ap (λ (l : List Float). xs ++ l) (drop-at ys (drop (length ys) out) (length xs) (sym e) ∙ ap (λ (n : ℕ). drop n out) (sym e))
 
 -- Two results under one refusal are the same where it is none.
 unless-same : (k n : ℕ) (o p : Outcome) → n ≡ k → (k ≡ 0 → o ≡ p) → unless refusedValue n o ≡ unless refusedValue k p
@@ -47,49 +42,49 @@ refused-same (suc k) o p r before after z h g = g
 
 module _ (s : Shape) (a : List Float) (room : ℕ) where
   -- The tests are those of a change to its own dimensions.
-  pub kept-tests : refusal (checks (s .dims) (s .dims) (length a) room (2 ^ s .dims)) ≡ keptRefusal s a room
+  pub kept-tests : refusal (checks (s .dims) (s .dims) (length a) room (2 ^ s .dims)) ≡ refusal (keptTests s a room)
   kept-tests = later-same (s .dims) _ _ (λ l. refused-later (tooMany (s .dims)) _ (le-ltb 9 (s .dims) l))
 
-  pub fits : keptRefusal s a room ≡ 0 → KeptFits s a room
-  fits z =
+  pub kept-accepted : refusal (keptTests s a room) ≡ 0 → Accepted s a room
+  kept-accepted z =
       let t = taken (s .dims) (s .dims) (length a) room (2 ^ s .dims) (kept-tests ∙ z) in
       record { small = t .small; counted = t .counted; roomy = t .roomy }
 
-  pub passes : KeptFits s a room → keptRefusal s a room ≡ 0
+  pub accepted-kept : Accepted s a room → refusal (keptTests s a room) ≡ 0
   unfolding refusal
-  passes f = simp (le-ltb 9 (s .dims) (f .small), eq-eqb (length a) (2 ^ s .dims) (f .counted), le-ltb room (2 ^ s .dims) (f .roomy))
+  accepted-kept f = simp (le-ltb 9 (s .dims) (f .small), eq-eqb (length a) (2 ^ s .dims) (f .counted), le-ltb room (2 ^ s .dims) (f .roomy))
 
   -- A value set to its own dimensions is a copy.
   pub copied : setDims s (s .dims) a room ≡ kept (λ xs. xs) s a room
   unfolding setDims kept
   copied =
       unless-same _ _ _ _ kept-tests
-      (λ z. let f = fits z in ap (value s) (resized-same (s .dims) a (f .small) (f .counted)))
+      (λ z. let f = kept-accepted z in ap (value s) (resized-same (s .dims) a (f .small) (f .counted)))
 
--- The call is done where the value fits.
-pub kept-value : (g : List Float → List Float) (s : Shape) (a : List Float) (room : ℕ) → KeptFits s a room → kept g s a room ≡ value s (g a)
+-- The call is done where the value is accepted.
+pub kept-value : (g : List Float → List Float) (s : Shape) (a : List Float) (room : ℕ) → Accepted s a room → kept g s a room ≡ value s (g a)
 unfolding kept
-kept-value g s a room f = unless-done refusedValue (keptRefusal s a room) 0 _ (sym (passes s a room f)) refl
+kept-value g s a room f = unless-done refusedValue (refusal (keptTests s a room)) 0 _ (sym (accepted-kept s a room f)) refl
 
 module _ (s : Shape) (a : List Float) (r : Answer) (before mid : List Float) (g : Gives (setDims s (s .dims) a (length before)) r before mid) where
   own : Gives (kept (λ xs. xs) s a (length before)) r before mid
   own = subst (λ (o : Outcome). Gives o r before mid) (copied s a (length before)) g
 
-  accepted : r .number ≡ 0 → keptRefusal s a (length before) ≡ 0
+  unrefused : r .number ≡ 0 → refusal (keptTests s a (length before)) ≡ 0
   unfolding kept
-  accepted z = not-refused _ (value s a) (sym (ap (λ (x : Answer). x .number) (own .answered)) ∙ z) .0
+  unrefused z = not-refused _ (value s a) (sym (ap (λ (x : Answer). x .number) (own .answered)) ∙ z) .0
 
   done : r .number ≡ 0 → Gives (value s a) r before mid
   unfolding kept
-  done z = subst (λ (o : Outcome). Gives o r before mid) (unless-done refusedValue _ 0 (value s a) (sym (accepted z)) refl) own
+  done z = subst (λ (o : Outcome). Gives o r before mid) (unless-done refusedValue _ 0 (value s a) (sym (unrefused z)) refl) own
 
   -- A copy that is refused writes nothing, whatever was to be done to it.
   pub copy-refused : (f : List Float → List Float) → (r .number ≡ 0 → ⊥) → Gives (kept f s a (length before)) r before mid
   unfolding kept
   copy-refused f h = refused-same _ (value s a) (value s (f a)) r before mid refl h own
 
-  pub copy-fits : r .number ≡ 0 → KeptFits s a (length before)
-  copy-fits z = fits s a (length before) (accepted z)
+  pub copy-accepted : r .number ≡ 0 → Accepted s a (length before)
+  copy-accepted z = kept-accepted s a (length before) (unrefused z)
 
   -- A copy that is done is at the front of the output.
   pub copy-laid : r .number ≡ 0 → mid ≡ laid a before
@@ -98,21 +93,49 @@ module _ (s : Shape) (a : List Float) (r : Answer) (before mid : List Float) (g 
   pub copy-room : r .number ≡ 0 → length a ≤ length mid
   copy-room z = rw (copy-laid z) (omega (arith, length-append a (drop (length a) before)))
 
-  -- It is done where the value fits.
-  pub copy-done : KeptFits s a (length before) → r .number ≡ 0
+  -- It is done where the value is accepted.
+  pub copy-done : Accepted s a (length before) → r .number ≡ 0
   unfolding kept
   copy-done f =
       ap (λ (x : Answer). x .number) (own .answered)
-      ∙ ap (λ (o : Outcome). o .number) (unless-done refusedValue _ 0 (value s a) (sym (passes s a (length before) f)) refl)
+      ∙ ap (λ (o : Outcome). o .number) (unless-done refusedValue _ 0 (value s a) (sym (accepted-kept s a (length before) f)) refl)
 
   -- The copy is changed where it lies.
   pub copy-changed : (f : List Float → List Float) (after : List Float) → r .number ≡ 0 → length (f a) ≡ length a → after ≡ laid (f (take (length a) mid)) mid → Gives (kept f s a (length before)) r before after
   unfolding kept
   copy-changed f after z l e =
       let whole : take (length a) mid ≡ a = rw (copy-laid z) (take-laid (length a) a before refl) in
-      let over : laid (f a) mid ≡ laid (f a) before = rw (copy-laid z) (laid-again (f a) a before l) in
-      gives-done _ 0 (value s (f a)) r before after (sym (accepted z)) refl (done z .answered)
+      let over : laid (f a) mid ≡ laid (f a) before = rw (copy-laid z) (laid-over (f a) a before l) in
+      gives-done _ 0 (value s (f a)) r before after (sym (unrefused z)) refl (done z .answered)
       (e ∙ ap (λ (xs : List Float). laid (f xs) mid) whole ∙ over)
+
+-- ---- a call that keeps the shape: n is the number that the code found
+
+module _ (g : List Float → List Float) (s : Shape) (a : List Float) (n : ℕ) (r : Answer) (out : List Float) (e : n ≡ refusal (keptTests s a (length out))) where
+  pub kept-refused : (n ≡ 0 → ⊥) → r ≡ answerOf (refusedValue n) → Gives (kept g s a (length out)) r out out
+  unfolding kept
+  kept-refused h q = gives-refused (refusal (keptTests s a (length out))) n (value s (g a)) r out e h q
+
+  pub kept-done : (after : List Float) → n ≡ 0 → r ≡ answerOf (value s []) → after ≡ laid (g a) out → Gives (kept g s a (length out)) r out after
+  unfolding kept
+  kept-done after z q l = gives-done (refusal (keptTests s a (length out))) n (value s (g a)) r out after e z q l
+
+-- ---- copies
+
+-- A value set to its own dimensions, where it is accepted, is a copy at the front of the output.
+pub copy-whole : (s : Shape) (a : List Float) (r : Answer) (before mid : List Float) → Gives (setDims s (s .dims) a (length before)) r before mid → Accepted s a (length before) → mid ≡ laid a before
+copy-whole s a r before mid g f = copy-laid s a r before mid g (copy-done s a r before mid g f)
+
+-- What lies at the front is changed where it lies.
+pub relaid : (f : List Float → List Float) (xs out mid after : List Float) (n : ℕ) → length xs ≡ n → length (f xs) ≡ n → mid ≡ laid xs out → after ≡ laid (f (take n mid)) mid → after ≡ laid (f xs) out
+relaid f xs out mid after n l g e q =
+    q
+    ∙ ap (λ (ys : List Float). laid (f (take n ys)) ys) e
+    ∙ ap (λ (ys : List Float). laid (f ys) (laid xs out)) (take-laid n xs out l)
+    ∙ laid-over (f xs) xs out (g ∙ sym l)
+
+pub first-laid : (xs out : List Float) → 0 < length xs → getD (laid xs out) 0 nan ≡ getD xs 0 nan
+first-laid xs out l = List·getD-append xs (drop (length xs) out) nan 0 l
 
 -- ---- numbers changed where they lie
 

@@ -1,36 +1,61 @@
--- In the list of tests of each call of this crate the numbers rise, so that the lowest that applies is given (`refused-lowest` of masks). Assumes nothing.
-use mathlib.Core.Bool.{Bool}
-use mathlib.Core.List.{List, [], _∷_, _++_}
-use Prim.Native.Nat.{ℕ}
+-- In the list of tests that the definition of each call cites the numbers rise, so the lowest that applies is given. Assumes nothing.
+use mathlib.Core.Path.{_≡_}
+use mathlib.Core.Bool.{true}
+use mathlib.Core.List.{List}
+use Prim.Native.Nat.{ℕ, _≤_, _<_}
 use lib.Dec.{T}
 use lib.Ieee.{Float}
+use lib.IntN.{ℤ}
+use lib.ListN.{length, getD}
 use Rattle.masks.specs.declared.shape.Shape.{Shape}
-use Rattle.masks.specs.Outcome.{tooMany, wrongCount, noRoom}
-use Rattle.masks.proofs.Lowest.{rises}
-use Rattle.arithmetic.specs.declared.scalar.ScalarTest.{ScalarTest}
-use Rattle.arithmetic.specs.Scalar.{noInverse}
-use Rattle.arithmetic.specs.Operators.{pairTests}
+use Rattle.masks.specs.Outcome.{Test, refusal}
+use Rattle.masks.proofs.Lowest.{rises, refused-lowest}
+use Rattle.product.specs.Products.{productTests}
+use Rattle.arithmetic.specs.Scalar.{ownTests}
+use Rattle.arithmetic.specs.Kept.{keptTests}
+use Rattle.arithmetic.specs.Operators.{operatorTests}
+use Rattle.arithmetic.specs.Inverse.{inverseTests}
+use Rattle.arithmetic.specs.Quotient.{quotientTests}
+use Rattle.arithmetic.specs.Power.{powerTests}
+use Rattle.arithmetic.specs.Compare.{comparedTests}
 
--- One value: only tested, its shape kept, its inverse, a power of it.
-pub tested-rises : (d count : ℕ) → T (rises 1 (tooMany d ∷ wrongCount count d ∷ []))
-tested-rises d count = tt
+-- No test that fails has a lower number than the one that the list gives.
+abbrev pub GivesLowest : List Test → Type 0
+GivesLowest ts = (test : Test) (k : ℕ) → k < length ts → getD ts k test .fails ≡ true → refusal ts ≤ getD ts k test .number
 
-pub kept-rises : (d count room needed : ℕ) → T (rises 1 (tooMany d ∷ wrongCount count d ∷ noRoom room needed ∷ []))
-kept-rises d count room needed = tt
+rising : (ts : List Test) → T (rises 1 ts) → GivesLowest ts
+rising ts r test k h e = refused-lowest 1 ts test k r h e
 
-pub inverse-rises : (d count room needed : ℕ) (u : ScalarTest) → T (rises 1 (tooMany d ∷ wrongCount count d ∷ noRoom room needed ∷ noInverse u ∷ []))
-inverse-rises d count room needed u = tt
+module _ (s : Shape) (a : List Float) where
+  -- `scalar_test` and `squared_magnitude`.
+  pub own-lowest : GivesLowest (ownTests s a)
+  own-lowest = rising (ownTests s a) tt
 
-pub power-rises : (d n count room needed : ℕ) (planar least : Bool) → T (rises 1 (tooMany d ∷ tooMany n ∷ wrongCount count d ∷ noRoom room needed ∷ record { fails = planar; number = 5 } ∷ record { fails = least; number = 6 } ∷ []))
-power-rises d n count room needed planar least = tt
+  -- `neg`, `*` and `/` by a number, the reverses, the duals, `take_scalar` and `make_scalar_only`.
+  pub kept-lowest : (room : ℕ) → GivesLowest (keptTests s a room)
+  kept-lowest room = rising (keptTests s a room) tt
 
--- Two values: compared, operated on, divided.
-pub compared-rises : (d e count countRight : ℕ) → T (rises 1 (tooMany d ∷ tooMany e ∷ wrongCount count d ∷ wrongCount countRight e ∷ []))
-compared-rises d e count countRight = tt
+  -- `inverted`.
+  pub inverse-lowest : (room : ℕ) → GivesLowest (inverseTests s a room)
+  inverse-lowest room = rising (inverseTests s a room) tt
 
-module _ (s t : Shape) (n : ℕ) (a b : List Float) (room : ℕ) where
-  pub pair-rises : T (rises 1 (pairTests s t n a b room))
-  pair-rises = tt
+  -- `powi`.
+  pub power-lowest : (p : ℤ) (room : ℕ) → GivesLowest (powerTests s p a room)
+  power-lowest p room = rising (powerTests s p a room) tt
 
-  pub quotient-rises : (u : ScalarTest) → T (rises 1 (pairTests s t n a b room ++ noInverse u ∷ []))
-  quotient-rises u = tt
+module _ (s t : Shape) (a b : List Float) where
+  -- `eq` and `cmp`.
+  pub compared-lowest : GivesLowest (comparedTests s t a b)
+  compared-lowest = rising (comparedTests s t a b) tt
+
+  -- `mul`, `add` and `sub`.
+  pub operator-lowest : (room : ℕ) → GivesLowest (operatorTests s t a b room)
+  operator-lowest room = rising (operatorTests s t a b room) tt
+
+  -- `div`.
+  pub quotient-lowest : (room : ℕ) → GivesLowest (quotientTests s t a b room)
+  quotient-lowest room = rising (quotientTests s t a b room) tt
+
+  -- `regressive_product`.
+  pub regressive-lowest : (room : ℕ) → GivesLowest (productTests s t a b room)
+  regressive-lowest room = rising (productTests s t a b room) tt

@@ -28,12 +28,12 @@ use Rattle.masks.proofs.ListLaws.{take-laid}
 use Rattle.masks.proofs.OrderLaws.{blades-le}
 use Rattle.masks.proofs.RefusalLaws.{refused-first, refused-later}
 use Rattle.arithmetic.specs.Scalar.{testOf, wasPlanar}
-use Rattle.arithmetic.specs.Operators.{isOther, resultDims, operatorRefusal, multiplication}
+use Rattle.arithmetic.specs.Operators.{isOther, resultDims, operatorTests, multiplication}
 use Rattle.arithmetic.specs.Dual.{ample}
 use Rattle.arithmetic.specs.Inverse.{squared}
-use Rattle.arithmetic.specs.Power.{isNegative, sizeOf, isDirect, powerDims, raised, powerOf, powerRefusal, power}
+use Rattle.arithmetic.specs.Power.{isNegative, sizeOf, isDirect, powerDims, raised, powerOf, negativePlanar, leastPower, powerTests, power}
 use Rattle.arithmetic.proofs.KeptLaws as Kept
-use Rattle.arithmetic.proofs.OperatorLaws.{multiply-length}
+use Rattle.arithmetic.proofs.OperatorsLaws.{multiply-length}
 use Rattle.arithmetic.proofs.ScalarLaws.{IsPlanar, planar-is, is-planar}
 
 -- ---- the exponent
@@ -81,8 +81,8 @@ raised-next s (suc k) n r x h l = (k, half n k l, refl)
 
 -- ---- values at the front of an output
 
--- A value that fits is copied.
-pub copied-front : (s : Shape) (a out after : List Float) (r : Answer) → Kept.KeptFits s a (length out) → Gives (setDims s (s .dims) a (length out)) r out after → after ≡ laid a out
+-- A value that is accepted is copied.
+pub copied-front : (s : Shape) (a out after : List Float) (r : Answer) → Kept.Accepted s a (length out) → Gives (setDims s (s .dims) a (length out)) r out after → after ≡ laid a out
 copied-front s a out after r f g = Kept.copy-laid s a r out after g (Kept.copy-done s a r out after g f)
 
 -- A value that a buffer holds at its front is copied on from there.
@@ -109,8 +109,8 @@ module _ (g s : Shape) (r x : List Float) (f : g .flavor ≡ s .flavor) (m : s .
       go true = omega arith
       go false = omega arith
 
-  pub grown-number : operatorRefusal g s r x 512 ≡ 0
-  unfolding operatorRefusal refusal
+  pub grown-number : refusal (operatorTests g s r x 512) ≡ 0
+  unfolding refusal
   grown-number =
       rw (grown-dims, le-ltb 9 (g .dims) h, le-ltb 9 (s .dims) (omega arith), eq-eqb (length r) (2 ^ g .dims) l, eq-eqb (length x) (2 ^ s .dims) k, le-ltb 512 (2 ^ g .dims) (blades-le (g .dims) h))
 
@@ -177,21 +177,14 @@ module _ (s : Shape) (p : ℤ) (a : List Float) (room : ℕ) where
 
   -- The tests after those of a change to n dimensions.
   abbrev planar : Test
-  planar = record { fails = isNegative p && wasPlanar (testOf s a); number = 5 }
+  planar = negativePlanar s p a
 
   abbrev least : Test
-  least = record { fails = eqb (sizeOf p) (2 ^ 31); number = 6 }
+  least = leastPower p
 
-  abbrev tests : List Test
-  tests = tooMany (s .dims) ∷ tooMany n ∷ wrongCount (length a) (s .dims) ∷ noRoom room (2 ^ n) ∷ planar ∷ least ∷ []
-
-  pub power-number : power s p a room .number ≡ powerRefusal s p a room
+  pub power-number : power s p a room .number ≡ refusal (powerTests s p a room)
   unfolding power
-  power-number = number-of (powerRefusal s p a room) _ refl
-
-  refused-by : power s p a room .number ≡ refusal tests
-  unfolding powerRefusal
-  refused-by = power-number
+  power-number = number-of (refusal (powerTests s p a room)) _ refl
 
   -- The last two tests give 5 or 6.
   given-last : (k : ℕ) → (0 ≡ k → ⊥) → (5 ≡ k → ⊥) → (6 ≡ k → ⊥) → refusal (planar ∷ least ∷ []) ≡ k → ⊥
@@ -200,7 +193,7 @@ module _ (s : Shape) (p : ℤ) (a : List Float) (room : ℕ) where
   pub power-one : power s p a room .number ≡ 1 → TooMany
   unfolding powerDims
   power-one e =
-      elim (begins 1 (tooMany (s .dims)) _ (sym refused-by ∙ e)) [
+      elim (begins 1 (tooMany (s .dims)) _ (sym power-number ∙ e)) [
         | inl q ↦ inl (ltb-true 9 (s .dims) (q .0))
         | inr q ↦ inr (raised-above (isDirect (sizeOf p)) (s .dims) (s .flavor) (ltb-false 9 (s .dims) (q .0)) (ltb-true 9 n (fails-here 1 (tooMany n) _ later (q .1))))
       ]
@@ -212,20 +205,19 @@ module _ (s : Shape) (p : ℤ) (a : List Float) (room : ℕ) where
 
   pub one-power : TooMany → power s p a room .number ≡ 1
   unfolding powerDims
-  one-power (inl h) = refused-by ∙ refused-first (tooMany (s .dims)) _ (lt-ltb 9 (s .dims) h)
+  one-power (inl h) = power-number ∙ refused-first (tooMany (s .dims)) _ (lt-ltb 9 (s .dims) h)
   one-power (inr h) =
-      refused-by ∙ refused-later (tooMany (s .dims)) _ (le-ltb 9 (s .dims) (omega (arith, h .0)))
+      power-number ∙ refused-later (tooMany (s .dims)) _ (le-ltb 9 (s .dims) (omega (arith, h .0)))
       ∙ refused-first (tooMany n) _ (lt-ltb 9 n (above-raised (isDirect (sizeOf p)) (s .dims) (s .flavor) (h .0) (h .1) (h .2)))
 
   -- What holds where neither 1, 2 nor 3 is given.
-  pub record PowerFits : Type 0 where
+  pub record PowerAccepted : Type 0 where
     pub small : s .dims ≤ 9
     pub result : powerDims s (sizeOf p) ≤ 9
     pub counted : length a ≡ 2 ^ s .dims
     pub roomy : 2 ^ powerDims s (sizeOf p) ≤ room
 
-  fitting : (k : ℕ) → (1 ≡ k → ⊥) → (2 ≡ k → ⊥) → (3 ≡ k → ⊥) → powerRefusal s p a room ≡ k → PowerFits × (refusal (planar ∷ least ∷ []) ≡ k)
-  unfolding powerRefusal
+  fitting : (k : ℕ) → (1 ≡ k → ⊥) → (2 ≡ k → ⊥) → (3 ≡ k → ⊥) → refusal (powerTests s p a room) ≡ k → PowerAccepted × (refusal (planar ∷ least ∷ []) ≡ k)
   fitting k x y z e =
       let q = passes-by k (tooMany (s .dims)) _ x e in
       let r = passes-by k (tooMany n) _ x (q .1) in
@@ -240,50 +232,50 @@ module _ (s : Shape) (p : ℤ) (a : List Float) (room : ℕ) where
         u .1,
       )
 
-  fitted : PowerFits → powerRefusal s p a room ≡ refusal (planar ∷ least ∷ [])
-  unfolding powerRefusal refusal
+  fitted : PowerAccepted → refusal (powerTests s p a room) ≡ refusal (planar ∷ least ∷ [])
+  unfolding refusal
   fitted f =
       rw (le-ltb 9 (s .dims) (f .small), le-ltb 9 n (f .result), eq-eqb (length a) (2 ^ s .dims) (f .counted), le-ltb room (2 ^ n) (f .roomy))
 
-  -- Where a value fits, the last two tests decide.
-  pub refused-five : PowerFits → (isNegative p && wasPlanar (testOf s a)) ≡ true → powerRefusal s p a room ≡ 5
+  -- Where a value is accepted, the last two tests decide.
+  pub refused-five : PowerAccepted → (isNegative p && wasPlanar (testOf s a)) ≡ true → refusal (powerTests s p a room) ≡ 5
   refused-five f e = fitted f ∙ refused-first planar _ e
 
-  pub refused-six : PowerFits → (isNegative p && wasPlanar (testOf s a)) ≡ false → sizeOf p ≡ 2 ^ 31 → powerRefusal s p a room ≡ 6
+  pub refused-six : PowerAccepted → (isNegative p && wasPlanar (testOf s a)) ≡ false → sizeOf p ≡ 2 ^ 31 → refusal (powerTests s p a room) ≡ 6
   refused-six f e l = fitted f ∙ refused-later planar _ e ∙ refused-first least [] (eq-eqb (sizeOf p) (2 ^ 31) l)
 
-  pub refused-none : PowerFits → (isNegative p && wasPlanar (testOf s a)) ≡ false → (sizeOf p ≡ 2 ^ 31 → ⊥) → powerRefusal s p a room ≡ 0
+  pub refused-none : PowerAccepted → (isNegative p && wasPlanar (testOf s a)) ≡ false → (sizeOf p ≡ 2 ^ 31 → ⊥) → refusal (powerTests s p a room) ≡ 0
   unfolding refusal
   refused-none f e l = fitted f ∙ refused-later planar (least ∷ []) e ∙ refused-later least [] (ne-eqb (sizeOf p) (2 ^ 31) l)
 
-  pub none-refused : powerRefusal s p a room ≡ 0 → PowerFits × ((isNegative p && wasPlanar (testOf s a)) ≡ false) × (sizeOf p ≡ 2 ^ 31 → ⊥)
+  pub none-refused : refusal (powerTests s p a room) ≡ 0 → PowerAccepted × ((isNegative p && wasPlanar (testOf s a)) ≡ false) × (sizeOf p ≡ 2 ^ 31 → ⊥)
   none-refused e =
       let f = fitting 0 (λ q. omega arith) (λ q. omega arith) (λ q. omega arith) e in
       let q = passes-by 0 planar _ (λ q. omega arith) (f .1) in
       (f .0, q .0, eqb-false (sizeOf p) (2 ^ 31) (passes-by 0 least [] (λ q. omega arith) (q .1) .0))
 
   -- 5: a negative power of a planar value.
-  pub power-five : power s p a room .number ≡ 5 → PowerFits × (isNegative p ≡ true) × IsPlanar s a
+  pub power-five : power s p a room .number ≡ 5 → PowerAccepted × (isNegative p ≡ true) × IsPlanar s a
   power-five e =
       let f = fitting 5 (λ q. omega arith) (λ q. omega arith) (λ q. omega arith) (sym power-number ∙ e) in
       let none = given-none 5 (λ q. omega arith) in
       let b = both-true (isNegative p) _ (fails-here 5 planar _ (λ q. none (passes-by 5 least [] (λ r. omega arith) q .1)) (f .1)) in
       (f .0, b .0, planar-is s a (f .0 .counted) (b .1))
 
-  pub five-power : PowerFits → isNegative p ≡ true → IsPlanar s a → power s p a room .number ≡ 5
+  pub five-power : PowerAccepted → isNegative p ≡ true → IsPlanar s a → power s p a room .number ≡ 5
   five-power f g i = power-number ∙ refused-five f (and-both g (is-planar s a (f .counted) i))
 
   -- 6: the power is the least i32, and the value is not planar.
-  pub power-six : power s p a room .number ≡ 6 → PowerFits × (sizeOf p ≡ 2 ^ 31) × ((isNegative p ≡ true) → IsPlanar s a → ⊥)
+  pub power-six : power s p a room .number ≡ 6 → PowerAccepted × (sizeOf p ≡ 2 ^ 31) × ((isNegative p ≡ true) → IsPlanar s a → ⊥)
   power-six e =
       let f = fitting 6 (λ q. omega arith) (λ q. omega arith) (λ q. omega arith) (sym power-number ∙ e) in
       let q = passes-by 6 planar _ (λ q. omega arith) (f .1) in
       (f .0, eqb-true _ _ (fails-here 6 least [] (given-none 6 (λ r. omega arith)) (q .1)), λ g i. true≢false (sym (and-both g (is-planar s a (f .0 .counted) i)) ∙ q .0))
 
-  pub six-power : PowerFits → sizeOf p ≡ 2 ^ 31 → ((isNegative p ≡ true) → IsPlanar s a → ⊥) → power s p a room .number ≡ 6
+  pub six-power : PowerAccepted → sizeOf p ≡ 2 ^ 31 → ((isNegative p ≡ true) → IsPlanar s a → ⊥) → power s p a room .number ≡ 6
   six-power f e g = power-number ∙ refused-six f (not-both (isNegative p) _ (λ q w. g q (planar-is s a (f .counted) w))) e
 
   -- A power that is done has the flavor of the value, and one dimension more under Projective unless the power is 1, 2, -1 or -2.
-  pub power-done : power s p a room .number ≡ 0 → PowerFits × (power s p a room ≡ value (withDims s (powerDims s (sizeOf p))) (powerOf s p a))
+  pub power-done : power s p a room .number ≡ 0 → PowerAccepted × (power s p a room ≡ value (withDims s (powerDims s (sizeOf p))) (powerOf s p a))
   unfolding power
-  power-done e = (none-refused (sym power-number ∙ e) .0, not-refused (powerRefusal s p a room) _ e .1)
+  power-done e = (none-refused (sym power-number ∙ e) .0, not-refused (refusal (powerTests s p a room)) _ e .1)

@@ -20,7 +20,7 @@ use Rattle.product.specs.Pairwise.{maskAt}
 use Rattle.product.specs.Reverse.{reversed}
 use Rattle.arithmetic.specs.Kept.{kept}
 use Rattle.arithmetic.specs.Reverse.{reverse, invReversed}
-use Rattle.arithmetic.proofs.KeptLaws.{KeptFits, kept-value, copy-fits, copy-changed}
+use Rattle.arithmetic.proofs.KeptLaws.{Accepted, kept-value, copy-accepted, copy-changed}
 
 -- ---- one number
 
@@ -83,18 +83,18 @@ module _ (s : Shape) (a : List Float) (r : Answer) (before mid : List Float) (g 
   pub copy-turned : (f : List Float → List Float) (after : List Float) → ((xs : List Float) → length (f xs) ≡ 2 ^ s .dims)
       → after ≡ laid (f (take (2 ^ s .dims) mid)) mid → Gives (kept f s a (length before)) r before after
   copy-turned f after l e =
-      let n : length a ≡ 2 ^ s .dims = copy-fits s a r before mid g z .counted in
+      let n : length a ≡ 2 ^ s .dims = copy-accepted s a r before mid g z .counted in
       copy-changed s a r before mid g f after z (l a ∙ sym n) (e ∙ ap (λ (k : ℕ). laid (f (take k mid)) mid) (sym n))
 
   -- The output has room for the change.
   pub copy-roomy : length mid ≡ length before → (s .dims ≤ 9) × (2 ^ s .dims ≤ length mid)
-  copy-roomy e = let f = copy-fits s a r before mid g z in (f .small, omega (arith, f .roomy))
+  copy-roomy e = let f = copy-accepted s a r before mid g z in (f .small, omega (arith, f .roomy))
 
 -- The same of the call.
-pub reverse-twice : (s : Shape) (a : List Float) (room : ℕ) → KeptFits s a room → reverse s (reverse s a room .coefs) room ≡ value s a
+pub reverse-twice : (s : Shape) (a : List Float) (room : ℕ) → Accepted s a room → reverse s (reverse s a room .coefs) room ≡ value s a
 reverse-twice s a room f =
     let d = s .dims in
     let r = reversed d a in
-    let again : KeptFits s r room = record { small = f .small; counted = reversed-length d a; roomy = f .roomy } in
+    let again : Accepted s r room = record { small = f .small; counted = reversed-length d a; roomy = f .roomy } in
     ap (λ o. reverse s (o .coefs) room) (kept-value (reversed d) s a room f)
     ∙ kept-value (reversed d) s r room again ∙ ap (value s) (reversed-twice d a (f .counted))

@@ -1,4 +1,4 @@
--- Equality and order, as the Rust has them. Assumes nothing.
+-- Equality and order, as the reference has them. Assumes nothing.
 use mathlib.Core.Bool.{Bool, true, false, _&&_, _||_, cond}
 use mathlib.Core.List.{List, [], _∷_}
 use Prim.Native.Nat.{ℕ}
@@ -6,7 +6,7 @@ use lib.Dec.{eqb, ltb}
 use lib.Ieee.{Float, eq, lt, isNan}
 use lib.ListN.{length}
 use Rattle.masks.specs.declared.shape.Shape.{Shape}
-use Rattle.masks.specs.Outcome.{refusal, tooMany, wrongCount, unless}
+use Rattle.masks.specs.Outcome.{Test, refusal, tooMany, wrongCount, unless}
 use Rattle.arithmetic.specs.declared.scalar.ScalarTest.{ScalarTest}
 use Rattle.arithmetic.specs.declared.outcome.YesNo.{YesNo}
 use Rattle.arithmetic.specs.declared.outcome.Ordering.{Ordering}
@@ -14,10 +14,9 @@ use Rattle.arithmetic.specs.declared.outcome.Ordering.the-variants.{Less
 use Rattle.arithmetic.specs.declared.outcome.Ordered.{Ordered}
 use Rattle.arithmetic.specs.Scalar.{testOf, ifScalar}
 
--- The number that a comparison is refused with, or 0.
-abbrev pub comparedRefusal : Shape → Shape → List Float → List Float → ℕ
-comparedRefusal s t a b =
-    refusal (tooMany (s .dims) ∷ tooMany (t .dims) ∷ wrongCount (length a) (s .dims) ∷ wrongCount (length b) (t .dims) ∷ [])
+-- The tests of a comparison.
+abbrev pub comparedTests : Shape → Shape → List Float → List Float → List Test
+comparedTests s t a b = tooMany (s .dims) ∷ tooMany (t .dims) ∷ wrongCount (length a) (s .dims) ∷ wrongCount (length b) (t .dims) ∷ []
 
 -- ---- equality
 
@@ -36,13 +35,14 @@ samePlaces [] (y ∷ b) = false
 samePlaces (x ∷ a) [] = false
 samePlaces (x ∷ a) (y ∷ b) = sameNumber x y && samePlaces a b
 
+-- A refusal has its number, and no.
 abbrev pub refusedYesNo : ℕ → YesNo
 refusedYesNo k = record { number = k; yes = false }
 
--- The Rust's ==.
+-- `==` as the reference has it.
 unfoldable pub equals : Shape → Shape → List Float → List Float → YesNo
 equals s t a b =
-    unless refusedYesNo (comparedRefusal s t a b)
+    unless refusedYesNo (refusal (comparedTests s t a b))
     (record { number = 0; yes = answersAgree (testOf s a) (testOf t b) || samePlaces a b })
 
 -- ---- order
@@ -67,6 +67,7 @@ comparedPlaces [] b = Equal
 comparedPlaces (x ∷ a) [] = Equal
 comparedPlaces (x ∷ a) (y ∷ b) = orElse (comparedNumbers x y) (comparedPlaces a b)
 
+-- By count.
 unfoldable pub comparedCounts : ℕ → ℕ → Ordering
 comparedCounts m n = cond (ltb m n) Less (cond (ltb n m) Greater Equal)
 
@@ -74,6 +75,7 @@ comparedCounts m n = cond (ltb m n) Less (cond (ltb n m) Greater Equal)
 abbrev pub comparedLists : List Float → List Float → Ordering
 comparedLists a b = orElse (comparedCounts (length a) (length b)) (comparedPlaces a b)
 
+-- A refusal has its number, and equal.
 abbrev pub refusedOrdered : ℕ → Ordered
 refusedOrdered k = record { number = k; order = Equal }
 
@@ -81,6 +83,7 @@ refusedOrdered k = record { number = k; order = Equal }
 unfoldable pub comparedBy : ScalarTest → ScalarTest → List Float → List Float → Ordering
 comparedBy t u a b = ifScalar t (λ x. ifScalar u (comparedNumbers x) (comparedLists a b)) (comparedLists a b)
 
+-- `cmp` as the reference has it.
 unfoldable pub compared : Shape → Shape → List Float → List Float → Ordered
 compared s t a b =
-    unless refusedOrdered (comparedRefusal s t a b) (record { number = 0; order = comparedBy (testOf s a) (testOf t b) a b })
+    unless refusedOrdered (refusal (comparedTests s t a b)) (record { number = 0; order = comparedBy (testOf s a) (testOf t b) a b })

@@ -5,16 +5,16 @@ use Prim.Native.Nat.{ℕ, _-_, _^_}
 use lib.Ieee.{Float, nan}
 use lib.ListN.{length, getD, set, take, replicate}
 use Rattle.masks.specs.declared.shape.Shape.{Shape}
-use Rattle.masks.specs.Outcome.{Outcome, refusal, tooMany, wrongCount, noRoom, unless, value, refusedValue, laid, nought}
+use Rattle.masks.specs.Outcome.{Test, Outcome, refusal, tooMany, wrongCount, noRoom, unless, value, refusedValue, laid, nought}
 use Rattle.arithmetic.specs.declared.outcome.Taken.{Taken}
 
--- The number that such a call is refused with, or 0.
-abbrev pub keptRefusal : Shape → List Float → ℕ → ℕ
-keptRefusal s a room = refusal (tooMany (s .dims) ∷ wrongCount (length a) (s .dims) ∷ noRoom room (2 ^ s .dims) ∷ [])
+-- The tests of such a call, in an output of `room` numbers.
+abbrev pub keptTests : Shape → List Float → ℕ → List Test
+keptTests s a room = tooMany (s .dims) ∷ wrongCount (length a) (s .dims) ∷ noRoom room (2 ^ s .dims) ∷ []
 
 -- `kept g` is the call that changes the coefficients as g does.
 unfoldable pub kept : (List Float → List Float) → Shape → List Float → ℕ → Outcome
-kept g s a room = unless refusedValue (keptRefusal s a room) (value s (g a))
+kept g s a room = unless refusedValue (refusal (keptTests s a room)) (value s (g a))
 
 -- ---- place 0
 
@@ -22,6 +22,7 @@ kept g s a room = unless refusedValue (keptRefusal s a room) (value s (g a))
 unfoldable pub scalarOnly : List Float → List Float
 scalarOnly a = take 1 a ++ replicate (length a - 1) nought
 
+-- `make_scalar_only` keeps place 0.
 abbrev pub makeScalarOnly : Shape → List Float → ℕ → Outcome
 makeScalarOnly = kept scalarOnly
 
@@ -34,11 +35,12 @@ pub record Halves : Type 0 where
   pub outcome : Outcome
   pub scalar : Float
 
+-- The call.
 unfoldable pub takeScalar : Shape → List Float → ℕ → Halves
 takeScalar s a room =
     record {
       outcome = kept withoutScalar s a room;
-      scalar = unless (λ k. nought) (keptRefusal s a room) (getD a 0 nan);
+      scalar = unless (λ k. nought) (refusal (keptTests s a room)) (getD a 0 nan);
     }
 
 -- The answer has the number, the shape and the scalar; the coefficients are in the output.

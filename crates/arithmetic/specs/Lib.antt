@@ -10,3 +10,4 @@ pub mod Inverse
 pub mod Quotient
 pub mod Power
 pub mod Compare
+pub mod Accuracy

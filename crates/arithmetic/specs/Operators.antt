@@ -33,8 +33,9 @@ joinedDims s t other = max (s .dims + promotes (s .flavor) (t .flavor)) (t .dims
 unfoldable pub resultDims : Shape → Shape → List Float → ℕ
 resultDims s t b = joinedDims s t (isOther t b)
 
-unfoldable pub operatorRefusal : Shape → Shape → List Float → List Float → ℕ → ℕ
-operatorRefusal s t a b room = refusal (pairTests s t (resultDims s t b) a b room)
+-- The tests of `*`, `+` and `-`, in an output of `room` numbers.
+abbrev pub operatorTests : Shape → Shape → List Float → List Float → ℕ → List Test
+operatorTests s t a b room = pairTests s t (resultDims s t b) a b room
 
 -- ---- outcomes
 
@@ -45,7 +46,7 @@ withCoefs g o = record { number = o .number; shape = o .shape; coefs = g (o .coe
 -- By a scalar on the right the left side is conformed and each coefficient multiplied, unless by 1.0, with no snap; else conform and product.
 unfoldable pub multiplication : Shape → Shape → List Float → List Float → ℕ → Outcome
 multiplication s t a b room =
-    unless refusedValue (operatorRefusal s t a b room)
+    unless refusedValue (refusal (operatorTests s t a b room))
     (ifScalar (testOf t b) (λ f. withCoefs (scaled f) (conformTo s t a room)) (generalProduct s t a b room .outcome))
 
 -- A sum or a difference of two numbers.
@@ -63,11 +64,12 @@ summedEach op [] b = []
 summedEach op (x ∷ a) [] = []
 summedEach op (x ∷ a) (y ∷ b) = summed op x y ∷ summedEach op a b
 
+-- The sum of two conformed values; the left shape is kept.
 abbrev pub summedPair : Sum → Pair → Outcome
 summedPair op p = record { number = p .number; shape = p .leftShape; coefs = summedEach op (p .leftCoefs) (p .rightCoefs) }
 
 -- `+` and `-` likewise add at place 0 or everywhere.
 unfoldable pub addition : Sum → Shape → Shape → List Float → List Float → ℕ → Outcome
 addition op s t a b room =
-    unless refusedValue (operatorRefusal s t a b room)
+    unless refusedValue (refusal (operatorTests s t a b room))
     (ifScalar (testOf t b) (λ f. withCoefs (summedAt0 op f) (conformTo s t a room)) (summedPair op (conform s t a b room room)))

@@ -8,7 +8,7 @@ use lib.IntN.{ℤ, pos, negsuc}
 use lib.ListN.{length}
 use Rattle.masks.specs.declared.shape.Shape.{Shape}
 use Rattle.masks.specs.Flavor.{addedDims}
-use Rattle.masks.specs.Outcome.{Outcome, refusal, tooMany, wrongCount, noRoom, unless, value, refusedValue}
+use Rattle.masks.specs.Outcome.{Test, Outcome, refusal, tooMany, wrongCount, noRoom, unless, value, refusedValue}
 use Rattle.masks.specs.Shape.{withDims}
 use Rattle.masks.specs.Build.{scalar}
 use Rattle.arithmetic.specs.Scalar.{testOf, wasPlanar}
@@ -19,6 +19,7 @@ use Rattle.arithmetic.specs.Inverse.{squared, inverseOf}
 
 -- ---- the exponent
 
+-- A whole number below zero.
 abbrev pub isNegative : ℤ → Bool
 isNegative (pos n) = false
 isNegative (negsuc n) = true
@@ -58,14 +59,20 @@ powerOf s p a = raisedTo s (sizeOf p) (cond (isNegative p) (inverseOf s a) a)
 
 -- ---- the call
 
--- 5: a negative power of a planar value; 6: the power is the least i32.
-unfoldable pub powerRefusal : Shape → ℤ → List Float → ℕ → ℕ
-powerRefusal s p a room =
-    let n = powerDims s (sizeOf p) in
-    refusal
-    (tooMany (s .dims) ∷ tooMany n ∷ wrongCount (length a) (s .dims) ∷ noRoom room (2 ^ n)
-    ∷ record { fails = isNegative p && wasPlanar (testOf s a); number = 5 }
-    ∷ record { fails = eqb (sizeOf p) (2 ^ 31); number = 6 } ∷ [])
+-- 5: an inverse is wanted, for a negative power, of a planar value.
+abbrev pub negativePlanar : Shape → ℤ → List Float → Test
+negativePlanar s p a = record { fails = isNegative p && wasPlanar (testOf s a); number = 5 }
 
+-- 6: The power is the least i32.
+abbrev pub leastPower : ℤ → Test
+leastPower p = record { fails = eqb (sizeOf p) (2 ^ 31); number = 6 }
+
+-- The tests of a power, in an output of `room` numbers.
+abbrev pub powerTests : Shape → ℤ → List Float → ℕ → List Test
+powerTests s p a room =
+    tooMany (s .dims) ∷ tooMany (powerDims s (sizeOf p)) ∷ wrongCount (length a) (s .dims) ∷ noRoom room (2 ^ powerDims s (sizeOf p))
+    ∷ negativePlanar s p a ∷ leastPower p ∷ []
+
+-- `powi` is the power, in an output of `room` numbers.
 unfoldable pub power : Shape → ℤ → List Float → ℕ → Outcome
-power s p a room = unless refusedValue (powerRefusal s p a room) (value (withDims s (powerDims s (sizeOf p))) (powerOf s p a))
+power s p a room = unless refusedValue (refusal (powerTests s p a room)) (value (withDims s (powerDims s (sizeOf p))) (powerOf s p a))

@@ -4,7 +4,7 @@ use mathlib.Core.List.{List, [], _∷_, _++_}
 use Prim.Native.Nat.{ℕ}
 use lib.Ieee.{Float}
 use Rattle.masks.specs.declared.shape.Shape.{Shape}
-use Rattle.masks.specs.Outcome.{Outcome, refusal, unless, value, refusedValue}
+use Rattle.masks.specs.Outcome.{Test, Outcome, refusal, unless, value, refusedValue}
 use Rattle.arithmetic.specs.declared.scalar.ScalarTest.{ScalarTest}
 use Rattle.arithmetic.specs.declared.scalar.ScalarTest.the-variants.{Scalar, Planar, Neither}
 use Rattle.arithmetic.specs.Scalar.{testOf, ifScalar, noInverse}
@@ -22,8 +22,12 @@ divisorBy Neither t b = generalInverse t b
 unfoldable pub quotientDims : Shape → Shape → List Float → ℕ
 quotientDims s t b = cond (isOther t b) (resultDims s t (divisorBy (testOf t b) t b)) (s .dims)
 
+-- The tests of `/` by a value, in an output of `room` numbers.
+abbrev pub quotientTests : Shape → Shape → List Float → List Float → ℕ → List Test
+quotientTests s t a b room = pairTests s t (quotientDims s t b) a b room ++ noInverse (testOf t b) ∷ []
+
 -- `/` by a scalar value multiplies by 1 / f and doesn't conform; by others it multiplies by the inverse.
 unfoldable pub quotient : Shape → Shape → List Float → List Float → ℕ → Outcome
 quotient s t a b room =
-    unless refusedValue (refusal (pairTests s t (quotientDims s t b) a b room ++ noInverse (testOf t b) ∷ []))
+    unless refusedValue (refusal (quotientTests s t a b room))
     (ifScalar (testOf t b) (λ f. value s (scaled (reciprocal f) a)) (multiplication s t a (inverseOf t b) room))

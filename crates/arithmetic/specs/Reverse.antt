@@ -19,5 +19,6 @@ reverse s = kept (reversed (s .dims)) s
 unfoldable pub invReversed : ℕ → List Float → List Float
 invReversed d a = map (λ m. negatedIf (ltb (ones m % 4) 2) (coef d a m)) (order d)
 
+-- The call.
 abbrev pub invReverse : Shape → List Float → ℕ → Outcome
 invReverse s = kept (invReversed (s .dims)) s

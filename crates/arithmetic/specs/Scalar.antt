@@ -28,6 +28,7 @@ unfoldable pub isScalar : List Float → Bool
 isScalar [] = false
 isScalar (x ∷ xs) = allZero xs
 
+-- A flavor is Vanilla.
 abbrev pub isVanilla : Flavor → Bool
 isVanilla Vanilla = true
 isVanilla Projective = false
@@ -49,12 +50,13 @@ ifScalar (Scalar x) f y = f x
 ifScalar (Planar c) f y = y
 ifScalar Neither f y = y
 
--- 5: An inverse is wanted of a planar value.
+-- The test answered planar.
 unfoldable pub wasPlanar : ScalarTest → Bool
 wasPlanar (Scalar x) = false
 wasPlanar (Planar c) = true
 wasPlanar Neither = false
 
+-- 5: An inverse is wanted of a planar value.
 abbrev pub noInverse : ScalarTest → Test
 noInverse t = record { fails = wasPlanar t; number = 5 }
 
@@ -62,7 +64,10 @@ noInverse t = record { fails = wasPlanar t; number = 5 }
 abbrev pub refusedTest : ℕ → Tested
 refusedTest k = record { number = k; test = Neither }
 
+-- The tests of a call that only reads a value.
+abbrev pub ownTests : Shape → List Float → List Test
+ownTests s a = tooMany (s .dims) ∷ wrongCount (length a) (s .dims) ∷ []
+
+-- `scalar_test` is the test of a value.
 unfoldable pub scalarTest : Shape → List Float → Tested
-scalarTest s a =
-    unless refusedTest (refusal (tooMany (s .dims) ∷ wrongCount (length a) (s .dims) ∷ []))
-    (record { number = 0; test = testOf s a })
+scalarTest s a = unless refusedTest (refusal (ownTests s a)) (record { number = 0; test = testOf s a })

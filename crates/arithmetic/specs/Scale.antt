@@ -16,13 +16,15 @@ unity = fin false 1 (pos 0)
 unfoldable pub scaled : Float → List Float → List Float
 scaled f a = cond (eq f unity) a (map (λ x. mul binary64 x f) a)
 
+-- `*` by a number.
 abbrev pub mulF64 : Shape → Float → List Float → ℕ → Outcome
 mulF64 s f = kept (scaled f) s
 
--- `/` by a number multiplies by 1 / f.
+-- `/` by f multiplies by 1 / f.
 abbrev pub reciprocal : Float → Float
 reciprocal f = div binary64 unity f
 
+-- `/` by a number.
 abbrev pub divF64 : Shape → Float → List Float → ℕ → Outcome
 divF64 s f = kept (scaled (reciprocal f)) s
 

@@ -1,4 +1,4 @@
-// Equality and order, as the Rust has them.
+// Equality and order, as the reference has them.
 use super::outcome::Ordered;
 use super::outcome::Ordering;
 use super::outcome::YesNo;
@@ -11,12 +11,13 @@ ghost use mathlib.Core.Path.{_≡_};
 ghost use mathlib.Core.Bool.{true, false};
 ghost use lib.Ieee.{eq};
 ghost use lib.ListN.{length};
+ghost use Rattle.masks.specs.Outcome.{refusal};
 ghost use Rattle.arithmetic.specs.Scalar.{ifScalar};
-ghost use Rattle.arithmetic.specs.Compare.{comparedRefusal, answersAgree, sameNumber, samePlaces, equals, comparedNans, comparedNumbers, comparedPlaces, comparedLists, comparedBy, compared};
+ghost use Rattle.arithmetic.specs.Compare.{comparedTests, answersAgree, sameNumber, samePlaces, equals, comparedNans, comparedNumbers, comparedPlaces, comparedLists, comparedBy, compared};
 
 // The number that a comparison is refused with, or 0: room for any value is never too little.
 fn compare_refusal(left: Shape, right: Shape, a: &[f64], b: &[f64]) -> u8
-    ensures { λ r. ⌜ r ≡ comparedRefusal left right (now (a .entry)) (now (b .entry)) ⌝ }
+    ensures { λ r. ⌜ r ≡ refusal (comparedTests left right (now (a .entry)) (now (b .entry))) ⌝ }
 {
     pair_refusal(left.dims, right.dims, left.dims, a.len(), b.len(), 512)
 }
@@ -77,7 +78,7 @@ fn same_places(a: &[f64], b: &[f64]) -> bool
     true
 }
 
-// The Rust's ==: any two values that are not scalar are equal.
+// `==` as the reference has it: any two values that are not scalar are equal.
 pub fn eq(left: Shape, right: Shape, a: &[f64], b: &[f64]) -> YesNo
     ensures { λ r. ⌜ r ≡ equals left right (now (a .entry)) (now (b .entry)) ⌝ }
 {

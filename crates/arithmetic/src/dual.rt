@@ -1,4 +1,5 @@
 // Duals and the regressive product.
+use super::kept::kept_refusal;
 use super::operators::joined_refusal;
 use super::operators::mul;
 use masks::build::pseudoscalar;
@@ -7,26 +8,16 @@ use masks::order::blade_count;
 use masks::outcome::Answer;
 use masks::outcome::DONE;
 use masks::outcome::done;
-use masks::outcome::refusal_of;
 use masks::outcome::refused;
 use masks::shape::Shape;
-use product::multiply::general_product;
-use product::multiply::outer_product;
+use product::products::general_product;
+use product::products::outer_product;
 ghost use mathlib.Core.Path.{_≡_};
 ghost use Prim.Native.Nat.{_^_, _≤_};
 ghost use lib.ListN.{length};
 ghost use Rattle.masks.specs.Outcome.{Gives, laid};
-ghost use Rattle.arithmetic.specs.Kept.{keptRefusal};
-ghost use Rattle.arithmetic.specs.Dual.{dualOf, dual, antidualOf, antidual, meetingDims, regressiveProduct};
-
-// The number that a call on one value whose shape is kept is refused with, or 0.
-pub(crate) fn kept_refusal(shape: Shape, a: &[f64], room: usize) -> u8
-    ensures { λ r. ⌜ r ≡ keptRefusal shape (now (a .entry)) room ⌝ }
-{
-    let dims = shape.dims;
-    let needed = blade_count(dims).count;
-    refusal_of(dims, dims, a.len(), room, needed)
-}
+ghost use Rattle.product.specs.Products.{meetingDims};
+ghost use Rattle.arithmetic.specs.Dual.{dualOf, dual, antidualOf, antidual, regressiveProduct};
 
 // The dual, at the front of the output.
 fn put_dual(shape: Shape, a: &[f64], out: &mut [f64])

@@ -1,5 +1,5 @@
 // The inverse.
-use super::dual::kept_refusal;
+use super::kept::kept_refusal;
 use super::scalar::ScalarTest;
 use super::scalar::test_of;
 use super::scale::negate;
@@ -10,7 +10,7 @@ use masks::outcome::PLANAR;
 use masks::outcome::done;
 use masks::outcome::refused;
 use masks::shape::Shape;
-use product::multiply::general_product;
+use product::products::general_product;
 ghost use mathlib.Core.Path.{_≡_};
 ghost use Prim.Native.Nat.{_^_, _≤_, _<_};
 ghost use lib.Ieee.{nan};

@@ -2,6 +2,7 @@
 pub mod compare;
 pub mod dual;
 pub mod inverse;
+pub mod kept;
 pub mod magnitude;
 pub mod operators;
 pub mod outcome;

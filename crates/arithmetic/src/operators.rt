@@ -12,7 +12,7 @@ use masks::outcome::pair_refusal;
 use masks::outcome::refused;
 use masks::shape::Shape;
 use masks::shape::promotion;
-use product::multiply::general_product;
+use product::products::general_product;
 ghost use mathlib.Core.Path.{_≡_};
 ghost use Prim.Native.Nat.{_≤_};
 ghost use lib.ListN.{length, take};
@@ -21,7 +21,7 @@ ghost use Rattle.masks.specs.Shape.{conformTo, conform};
 ghost use Rattle.product.specs.Products.{generalProduct};
 ghost use Rattle.arithmetic.specs.declared.operators.Sum.the-variants.{Plus, Minus};
 ghost use Rattle.arithmetic.specs.Scale.{scaled};
-ghost use Rattle.arithmetic.specs.Operators.{pairTests, isOther, joinedDims, operatorRefusal, withCoefs, multiplication, summed, summedAt0, summedEach, summedPair, addition};
+ghost use Rattle.arithmetic.specs.Operators.{pairTests, isOther, joinedDims, operatorTests, withCoefs, multiplication, summed, summedAt0, summedEach, summedPair, addition};
 
 // A sum or a difference.
 pub enum Sum {
@@ -76,7 +76,7 @@ pub(crate) fn joined_refusal(
 
 // The number that an operator is refused with, or 0.
 pub(crate) fn operator_refusal(left: Shape, right: Shape, a: &[f64], b: &[f64], room: usize) -> u8
-    ensures { λ r. ⌜ r ≡ operatorRefusal left right (now (a .entry)) (now (b .entry)) room ⌝ }
+    ensures { λ r. ⌜ r ≡ refusal (operatorTests left right (now (a .entry)) (now (b .entry)) room) ⌝ }
 {
     joined_refusal(left, right, is_other(right, b), a, b, room)
 }

@@ -1,4 +1,4 @@
-// What the calls of this crate answer that no call below does.
+// What the calls of this crate return that no call below does.
 use masks::shape::Shape;
 
 // A yes or no.
@@ -20,7 +20,7 @@ pub struct Ordered {
     pub order: Ordering,
 }
 
-// A value whose scalar was taken: its coefficients are in the lent output.
+// A value whose scalar was taken: its coefficients are in the caller's output.
 pub struct Taken {
     pub number: u8,
     pub shape: Shape,

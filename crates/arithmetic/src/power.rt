@@ -20,12 +20,12 @@ ghost use mathlib.Core.Bool.{false, _&&_};
 ghost use Prim.Native.Nat.{_+_, _^_, _≤_, _<_};
 ghost use lib.ListN.{length, take};
 ghost use Rattle.masks.specs.Flavor.{addedDims};
-ghost use Rattle.masks.specs.Outcome.{Gives, laid};
+ghost use Rattle.masks.specs.Outcome.{Gives, laid, refusal};
 ghost use Rattle.masks.specs.Shape.{withDims};
 ghost use Rattle.arithmetic.specs.Scalar.{testOf, wasPlanar};
 ghost use Rattle.arithmetic.specs.Operators.{multiplication};
 ghost use Rattle.arithmetic.specs.Inverse.{squared};
-ghost use Rattle.arithmetic.specs.Power.{isNegative, sizeOf, isDirect, powerDims, byDigits, raisedTo, powerOf, powerRefusal, power};
+ghost use Rattle.arithmetic.specs.Power.{isNegative, sizeOf, isDirect, powerDims, byDigits, raisedTo, powerOf, powerTests, power};
 
 // The power's size.
 fn size_of(power: i32) -> u32
@@ -61,7 +61,7 @@ fn power_dims(shape: Shape, power: i32) -> u8
 
 // The number that a power is refused with, or 0.
 fn power_refusal(shape: Shape, power: i32, a: &[f64], room: usize) -> u8
-    ensures { λ r. ⌜ r ≡ powerRefusal shape power (now (a .entry)) room ⌝ }
+    ensures { λ r. ⌜ r ≡ refusal (powerTests shape power (now (a .entry)) room) ⌝ }
 {
     let n = power_dims(shape, power);
     let needed = blade_count(n).count;

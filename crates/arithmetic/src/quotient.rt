@@ -18,13 +18,13 @@ ghost use mathlib.Core.List.{[], _∷_, _++_};
 ghost use Prim.Native.Nat.{_^_, _≤_};
 ghost use lib.ListN.{length};
 ghost use Rattle.masks.specs.Outcome.{Gives, refusal};
-ghost use Rattle.arithmetic.specs.Operators.{pairTests, resultDims, multiplication};
+ghost use Rattle.arithmetic.specs.Operators.{operatorTests, multiplication};
 ghost use Rattle.arithmetic.specs.Inverse.{inverseOf};
 ghost use Rattle.arithmetic.specs.Quotient.{quotient};
 
 // The number of a division by a planar value, which has no inverse here: 5, where no lower one applies.
 fn planar_refusal(left: Shape, right: Shape, a: &[f64], b: &[f64], room: usize) -> u8
-    ensures { λ r. ⌜ r ≡ refusal (pairTests left right (resultDims left right (now (b .entry))) (now (a .entry)) (now (b .entry)) room ++ record { fails = true; number = 5 } ∷ []) ⌝ }
+    ensures { λ r. ⌜ r ≡ refusal (operatorTests left right (now (a .entry)) (now (b .entry)) room ++ record { fails = true; number = 5 } ∷ []) ⌝ }
 {
     let no = operator_refusal(left, right, a, b, room);
     if no != DONE {

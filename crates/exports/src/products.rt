@@ -1,11 +1,11 @@
 // The five products.
 use super::numbers::shape_from;
 use super::tell::tell_product;
-use product::multiply::general_product;
-use product::multiply::inner_product;
-use product::multiply::left_contraction;
-use product::multiply::outer_product;
-use product::multiply::right_contraction;
+use product::products::general_product;
+use product::products::inner_product;
+use product::products::left_contraction;
+use product::products::outer_product;
+use product::products::right_contraction;
 ghost use mathlib.Core.List.{[], _∷_};
 ghost use lib.ListN.{length};
 ghost use Rattle.product.specs.Products.{generalProduct, leftContraction, rightContraction, innerProduct, outerProduct};

@@ -29,16 +29,16 @@ use Rattle.product.specs.declared.mode.Mode.{Mode}
 use Rattle.product.specs.declared.mode.Mode.the-variants.{All, Left, Right, Inner, Outer}
 use Rattle.product.specs.Mode.{takes, flavorFor, pairMetric}
 use Rattle.product.specs.Pairwise.{metricAt, placeAt}
-use Rattle.product.specs.inner.Gathered.{gathered, sumAt}
+use Rattle.product.specs.inner.Pairwise.{gathered, sumAt}
 use Rattle.product.specs.Products.{Counted, multiplied}
 use Rattle.product.specs.Accuracy.{contributes, contributing, exactSizes, exactSum, Holds, Fitting, InBounds, LiesWithin, ExactCase, IsExactly, EqualNumbers, times}
 use Rattle.product.specs.Reverse.{reversed}
-use Rattle.product.proofs.RefusalLaws.{refused-by}
-use Rattle.product.proofs.MultipliedLaws.{multiplied-same}
-use Rattle.product.proofs.ConformedLaws.{as-conformed}
-use Rattle.product.proofs.GatherLaws.{product-gathered}
+use Rattle.product.proofs.ProductsRefusals.{refused-by}
+use Rattle.product.proofs.ProductsLaws.{multiplied-same}
+use Rattle.product.proofs.ProductsConformed.{as-conformed}
+use Rattle.product.proofs.PairwiseLaws.{product-gathered}
 use Rattle.product.proofs.AccuracyLaws.{bound, exact-at, exact}
-use Rattle.product.proofs.GroupingLaws.{grouping, reversing}
+use Rattle.product.proofs.AccuracyGrouping.{grouping, reversing}
 
 -- ---- the values
 

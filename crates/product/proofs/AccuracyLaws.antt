@@ -21,14 +21,14 @@ use Rattle.rounding.proofs.DemandLaws.{demand-bound, demand-exact}
 use Rattle.masks.specs.declared.shape.Shape.{Shape}
 use Rattle.masks.proofs.OrderLaws.{blades-le}
 use Rattle.product.specs.declared.mode.Mode.{Mode}
-use Rattle.product.specs.inner.Gathered.{gathered, sumAt}
+use Rattle.product.specs.inner.Pairwise.{gathered, sumAt}
 use Rattle.product.specs.Products.{multiplied}
 use Rattle.product.specs.Accuracy.{valueIn, above, beneath, contributing, exactSizes, exactSum, Holds, Fitting, InBounds, Multiples, LiesWithin, ExactCase, IsExactly}
-use Rattle.product.proofs.GatherLaws.{product-at}
-use Rattle.product.proofs.MultipliedLaws.{multiplied-same}
-use Rattle.product.proofs.Partners.{partner-place}
-use Rattle.product.proofs.ScaleLaws.{sign-is, size-is, value-whole}
-use Rattle.product.proofs.ExactLaws.{contributing-count, exact-sizes-total, exact-sum-parts}
+use Rattle.product.proofs.PairwiseLaws.{product-at}
+use Rattle.product.proofs.ProductsLaws.{multiplied-same}
+use Rattle.product.proofs.PairwisePartners.{partner-place}
+use Rattle.product.proofs.AccuracyUnits.{sign-is, size-is, value-whole}
+use Rattle.product.proofs.AccuracyExact.{contributing-count, exact-sizes-total, exact-sum-parts}
 
 -- ---- a difference of two natural numbers, as a whole number
 

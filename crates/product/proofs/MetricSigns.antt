@@ -17,7 +17,7 @@ use Rattle.masks.specs.declared.flavor.Flavor.the-variants.{Vanilla, Projective
 use Rattle.masks.specs.Flavor.{metricOf}
 use Rattle.product.specs.declared.mode.Mode.{Mode}
 use Rattle.product.specs.Mode.{takes, squares, flavorFor, pairMetric}
-use Rattle.product.specs.inner.Gathered.{negative}
+use Rattle.product.specs.inner.Pairwise.{negative}
 
 -- A whole number is -1, 0 or 1.
 abbrev pub Unital : ℤ → Type 0

@@ -21,7 +21,7 @@ use Rattle.product.specs.declared.mode.Mode.{Mode}
 use Rattle.product.specs.Mode.{takes, squares, pairMetric}
 use Rattle.product.specs.Pairwise.{maskAt, metricAt, placeAt, pairsOf}
 use Rattle.product.specs.Accuracy.{contributes, contributing}
-use Rattle.product.proofs.Partners.{place-at-lt}
+use Rattle.product.proofs.PairwisePartners.{place-at-lt}
 
 -- ---- sums of counts
 

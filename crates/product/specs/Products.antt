@@ -1,11 +1,12 @@
 -- What the five products give. Assumes nothing.
 use mathlib.Core.Path.{_≡_}
-use mathlib.Core.List.{List}
-use Prim.Native.Nat.{ℕ}
+use mathlib.Core.List.{List, [], _∷_}
+use Prim.Native.Nat.{ℕ, _+_, _^_, max}
 use lib.Ieee.{Float, binary64}
+use lib.ListN.{length}
 use Rattle.masks.specs.declared.shape.Shape.{Shape}
-use Rattle.masks.specs.Outcome.{Outcome, unless, value, refusedValue, laid}
-use Rattle.masks.specs.Shape.{conform}
+use Rattle.masks.specs.Outcome.{Test, Outcome, refusal, tooMany, wrongCount, noRoom, unless, value, refusedValue, laid}
+use Rattle.masks.specs.Shape.{promotes, conform}
 use Rattle.product.specs.declared.mode.Mode.{Mode}
 use Rattle.product.specs.declared.mode.Mode.the-variants.{All, Left, Right, Inner, Outer}
 use Rattle.product.specs.declared.outcome.Product.{Product}
@@ -28,11 +29,21 @@ multipliedOf mode s a b =
       pairs = pairsOf mode (s .flavor) (s .dims);
     }
 
--- Both values are conformed, refused as conforming them to outputs of `room` numbers is, and multiplied; the left shape is kept.
+-- The dimensions that two values meet in: the Vanilla one of a Vanilla and Projective pair is promoted, then the smaller is grown.
+abbrev pub meetingDims : Shape → Shape → ℕ
+meetingDims s t = max (s .dims + promotes (s .flavor) (t .flavor)) (t .dims + promotes (t .flavor) (s .flavor))
+
+-- The tests of a product: the dimensions of both values and of the result, both counts, and the room.
+abbrev pub productTests : Shape → Shape → List Float → List Float → ℕ → List Test
+productTests s t a b room =
+    tooMany (s .dims) ∷ tooMany (t .dims) ∷ tooMany (meetingDims s t) ∷ wrongCount (length a) (s .dims) ∷ wrongCount (length b) (t .dims)
+    ∷ noRoom room (2 ^ meetingDims s t) ∷ []
+
+-- Both values are conformed and multiplied; the left shape is kept.
 unfoldable pub multiplied : Mode → Shape → Shape → List Float → List Float → ℕ → Counted
 multiplied mode s t a b room =
     let c = conform s t a b room room in
-    unless refusedProduct (c .number) (multipliedOf mode (c .leftShape) (c .leftCoefs) (c .rightCoefs))
+    unless refusedProduct (refusal (productTests s t a b room)) (multipliedOf mode (c .leftShape) (c .leftCoefs) (c .rightCoefs))
 
 -- The five products, in an output of `room` numbers.
 abbrev pub generalProduct : Shape → Shape → List Float → List Float → ℕ → Counted

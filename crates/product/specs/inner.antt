@@ -1,3 +1,3 @@
 -- What only the contracts of private functions cite: a reader need not believe it.
-pub mod Gathered
-pub mod ByOnes
+pub mod Pairwise
+pub mod Metric

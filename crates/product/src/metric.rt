@@ -8,7 +8,7 @@ ghost use Prim.Native.Nat.{_^_, _<_, _≤_};
 ghost use Rattle.masks.specs.declared.flavor.Flavor.{Flavor};
 ghost use Rattle.masks.specs.Flavor.{metricValue};
 ghost use Rattle.product.specs.Mode.{flavorFor, pairMetric};
-ghost use Rattle.product.specs.inner.ByOnes.{squaresBelow, withSquare, oddBelow, bladeOf, turns, turnedOne};
+ghost use Rattle.product.specs.inner.Metric.{squaresBelow, withSquare, oddBelow, bladeOf, turns, turnedOne};
 
 // The basis vectors that square to 0, and those that square to -1, as masks.
 pub struct Squares {

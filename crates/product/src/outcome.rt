@@ -1,10 +1,11 @@
-// What a product answers.
+// What a product returns.
 use masks::flavor::Flavor;
+use masks::outcome::shape_of;
 use masks::shape::Shape;
 ghost use mathlib.Core.Path.{_≡_};
 ghost use Rattle.product.specs.Products.{productOf, refusedProduct};
 
-// A value with the number of its contributing pairs: its coefficients are in the lent output.
+// A value with the number of its contributing pairs: its coefficients are in the caller's output.
 pub struct Product {
     pub number: u8,
     pub shape: Shape,
@@ -15,8 +16,7 @@ pub struct Product {
 pub(crate) fn refused(number: u8) -> Product
     ensures { λ r. ⌜ r ≡ productOf (refusedProduct number) ⌝ }
 {
-    let flavor = Flavor::Vanilla;
-    let shape = Shape { dims: 0, flavor };
+    let shape = shape_of(0, Flavor::Vanilla);
     Product {
         number,
         shape,

@@ -3,7 +3,7 @@ use mathlib.Core.Path.{sym}
 use borrow.Author.Needs.{needs}
 use Rattle.masks.proofs.RefusalLaws.{unless-refused, unless-done}
 use Rattle.arithmetic.specs.Compare.{refusedOrdered, compared}
-use Rattle.arithmetic.proofs.ComparisonLaws.{both-counted}
+use Rattle.arithmetic.proofs.CompareLaws.{both-counted}
 use Rattle.arithmetic.proofs.compare.cmp.Statement.{statement}
 use Rattle.arithmetic.proofs.compare.cmp.Tie as tie
 

@@ -1,7 +1,7 @@
 -- `arithmetic::compare::compare_nan` meets its contract: a number that differs from itself is NaN. Assumes nothing.
 use mathlib.Core.Path.{sym, _∙_}
 use Rattle.arithmetic.specs.Compare.{comparedNans}
-use Rattle.arithmetic.proofs.ComparisonLaws.{ne-self}
+use Rattle.arithmetic.proofs.CompareLaws.{ne-self}
 use Rattle.arithmetic.proofs.compare.compare_nan.Statement.{statement}
 use Rattle.arithmetic.proofs.compare.compare_nan.Tie as tie
 

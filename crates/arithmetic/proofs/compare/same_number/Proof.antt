@@ -1,7 +1,7 @@
 -- `arithmetic::compare::same_number` meets its contract: a number that differs from itself is NaN. Assumes nothing.
 use mathlib.Core.Path.{sym, _∙_}
 use Rattle.arithmetic.specs.Compare.{sameNumber}
-use Rattle.arithmetic.proofs.ComparisonLaws.{ne-self}
+use Rattle.arithmetic.proofs.CompareLaws.{ne-self}
 use Rattle.arithmetic.proofs.compare.same_number.Statement.{statement}
 use Rattle.arithmetic.proofs.compare.same_number.Tie as tie
 

@@ -3,8 +3,7 @@ use mathlib.Core.Path.{sym, _∙_}
 use borrow.Author.Needs.{needs}
 use lib.ListN.{length}
 use Rattle.arithmetic.specs.Dual.{dualOf}
-use Rattle.arithmetic.proofs.KeptLaws.{fits}
-use Rattle.arithmetic.proofs.RegressiveLaws.{kept-refused, kept-done}
+use Rattle.arithmetic.proofs.KeptLaws.{kept-accepted, kept-refused, kept-done}
 use Rattle.arithmetic.proofs.dual.dual.Statement.{statement}
 use Rattle.arithmetic.proofs.dual.dual.Tie as tie
 
@@ -23,7 +22,7 @@ returns c =
 put-dual-requires : tie.Need-put-dual-requires
 put-dual-requires c κs =
     let a = c .before .before .before .before .before .args in
-    let f = fits (a .shape) (a .a .now) (length (a .out .now)) (sym (c .before .before .kept-refusal .ensures) ∙ c .before .if1 .left) in
+    let f = kept-accepted (a .shape) (a .a .now) (length (a .out .now)) (sym (c .before .before .kept-refusal .ensures) ∙ c .before .if1 .left) in
     (f .small, f .counted, f .roomy)
 
 done-requires : tie.Need-done-requires

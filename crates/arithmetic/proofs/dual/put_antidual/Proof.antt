@@ -3,7 +3,7 @@ use native.Mathlib.Omega.{arith}
 use borrow.Author.Needs.{needs}
 use lib.Ieee.{ofBits, ofFields}
 use Rattle.masks.proofs.OrderLaws.{blades-le}
-use Rattle.arithmetic.proofs.RegressiveLaws.{antidual-laid}
+use Rattle.arithmetic.proofs.DualRegressive.{antidual-laid}
 use Rattle.arithmetic.proofs.dual.put_antidual.Statement.{statement}
 use Rattle.arithmetic.proofs.dual.put_antidual.Tie as tie
 

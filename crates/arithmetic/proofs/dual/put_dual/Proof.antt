@@ -3,7 +3,7 @@ use native.Mathlib.Omega.{arith}
 use borrow.Author.Needs.{needs}
 use lib.Ieee.{ofBits, ofFields}
 use Rattle.masks.proofs.OrderLaws.{blades-le}
-use Rattle.arithmetic.proofs.RegressiveLaws.{dual-laid}
+use Rattle.arithmetic.proofs.DualRegressive.{dual-laid}
 use Rattle.arithmetic.proofs.dual.put_dual.Statement.{statement}
 use Rattle.arithmetic.proofs.dual.put_dual.Tie as tie
 

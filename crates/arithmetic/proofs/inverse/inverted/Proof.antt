@@ -2,23 +2,24 @@
 use mathlib.Core.Path.{_≡_, sym, ap, _∙_}
 use borrow.Author.Needs.{needs}
 use lib.ListN.{length}
-use Rattle.arithmetic.specs.Kept.{keptRefusal}
+use Rattle.masks.specs.Outcome.{refusal}
+use Rattle.arithmetic.specs.Kept.{keptTests}
 use Rattle.arithmetic.specs.Scalar.{testOf, wasPlanar}
-use Rattle.arithmetic.proofs.KeptLaws.{KeptFits, fits}
+use Rattle.arithmetic.proofs.KeptLaws.{Accepted, kept-accepted}
 use Rattle.arithmetic.proofs.InverseLaws.{gives-not-kept, gives-no-inverse, gives-inverse}
 use Rattle.arithmetic.proofs.inverse.inverted.Statement.{statement}
 use Rattle.arithmetic.proofs.inverse.inverted.Tie as tie
 
--- Past the first test the value fits.
+-- Past the first test the value is accepted.
 module _ (c : tie.Else1) where
   abbrev start : tie.Start
   start = c .before .before .before .before
 
-  kept : keptRefusal (start .args .shape) (start .args .a .now) (length (start .args .out .now)) ≡ 0
+  kept : refusal (keptTests (start .args .shape) (start .args .a .now) (length (start .args .out .now))) ≡ 0
   kept = sym (c .before .kept-refusal .ensures) ∙ c .if1 .left
 
-  value-fits : KeptFits (start .args .shape) (start .args .a .now) (length (start .args .out .now))
-  value-fits = fits _ _ _ kept
+  value-accepted : Accepted (start .args .shape) (start .args .a .now) (length (start .args .out .now))
+  value-accepted = kept-accepted _ _ _ kept
 
 kept-refusal-requires : tie.Need-kept-refusal-requires
 kept-refusal-requires c κs = search needs
@@ -32,7 +33,7 @@ returns c =
     gives-not-kept (a .shape) (a .a .now) (c .refused .result) (a .out .now) _ (c .before .before .kept-refusal .ensures) (c .before .if1 .taken) (c .refused .ensures)
 
 test-of-requires : tie.Need-test-of-requires
-test-of-requires c κs = value-fits c .counted
+test-of-requires c κs = value-accepted c .counted
 
 was-planar-requires : tie.Need-was-planar-requires
 was-planar-requires c κs = search needs
@@ -51,7 +52,7 @@ returns-2 c =
     gives-no-inverse (a .shape) (a .a .now) (c .refused2 .result) (a .out .now) (kept d) (sym (asked (c .before .before)) ∙ c .before .if2 .taken) (c .refused2 .ensures)
 
 put-inverse-requires : tie.Need-put-inverse-requires
-put-inverse-requires c κs = let f = value-fits (c .before .before .before .before) in (f .small, f .counted, f .roomy)
+put-inverse-requires c κs = let f = value-accepted (c .before .before .before .before) in (f .small, f .counted, f .roomy)
 
 done-requires : tie.Need-done-requires
 done-requires c κs = search needs

@@ -11,8 +11,8 @@ use Rattle.masks.specs.Outcome.{laid}
 use Rattle.masks.proofs.BladeLaws.{set-laid}
 use Rattle.arithmetic.specs.Scale.{scaled, reciprocal}
 use Rattle.arithmetic.specs.Inverse.{lessScalar, bySquare}
-use Rattle.arithmetic.proofs.KeptLaws.{scaled-length, set-laid as set-front}
-use Rattle.arithmetic.proofs.InverseLaws.{less-scalar-length, relaid, first-laid}
+use Rattle.arithmetic.proofs.KeptLaws.{scaled-length, relaid, first-laid, set-laid as set-front}
+use Rattle.arithmetic.proofs.InverseLaws.{less-scalar-length}
 use Rattle.arithmetic.proofs.inverse.put_by_square.Statement.{statement}
 use Rattle.arithmetic.proofs.inverse.put_by_square.Tie as tie
 

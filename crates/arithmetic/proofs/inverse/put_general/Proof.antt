@@ -14,13 +14,13 @@ use Rattle.masks.specs.Shape.{setDims}
 use Rattle.arithmetic.specs.declared.scalar.ScalarTest.{ScalarTest}
 use Rattle.arithmetic.specs.Scalar.{testOf, ifScalar}
 use Rattle.arithmetic.specs.Inverse.{squared, lessScalar, bySquare, nanified, generalInverse}
-use Rattle.arithmetic.proofs.KeptLaws.{KeptFits}
-use Rattle.arithmetic.proofs.InverseLaws.{less-scalar-length, by-square-length, copy-whole, relaid, first-laid}
+use Rattle.arithmetic.proofs.KeptLaws.{Accepted, copy-whole, relaid, first-laid}
+use Rattle.arithmetic.proofs.InverseLaws.{less-scalar-length, by-square-length}
 use Rattle.arithmetic.proofs.inverse.put_general.Statement.{statement}
 use Rattle.arithmetic.proofs.inverse.put_general.Tie as tie
 
 -- A copy that is changed where it lies is the inverse by the square q.
-by-copy : (s : Shape) (a : List Float) (r : Answer) (before mid after : List Float) (q : Float) → Gives (setDims s (s .dims) a (length before)) r before mid → KeptFits s a (length before)
+by-copy : (s : Shape) (a : List Float) (r : Answer) (before mid after : List Float) (q : Float) → Gives (setDims s (s .dims) a (length before)) r before mid → Accepted s a (length before)
     → after ≡ laid (bySquare (getD mid 0 nan) (lessScalar (take (length a) mid)) q) mid → after ≡ laid (bySquare (getD a 0 nan) (lessScalar a) q) before
 by-copy s a r before mid after q g f e =
     let c = copy-whole s a r before mid g f in

@@ -9,16 +9,15 @@ use lib.ListN.{length, set}
 use lib.Pow.{pow-pos}
 use Rattle.masks.proofs.BladeLaws.{set-laid}
 use Rattle.arithmetic.specs.Scale.{reciprocal}
-use Rattle.arithmetic.proofs.KeptLaws.{KeptFits}
-use Rattle.arithmetic.proofs.InverseLaws.{copy-whole}
+use Rattle.arithmetic.proofs.KeptLaws.{Accepted, copy-whole}
 use Rattle.arithmetic.proofs.inverse.put_reciprocal.Statement.{statement}
 use Rattle.arithmetic.proofs.inverse.put_reciprocal.Tie as tie
 
 abbrev start : tie.After-slice-known2 → tie.Start
 start c = c .before .before .before .before .before .before
 
--- The value fits the output, and is not empty.
-fits : (s : tie.Start) → KeptFits (s .args .shape) (s .args .a .now) (length (s .args .out .now))
+-- The value is accepted, and is not empty.
+fits : (s : tie.Start) → Accepted (s .args .shape) (s .args .a .now) (length (s .args .out .now))
 fits s = record { small = s .pre .0; counted = s .pre .1; roomy = s .pre .2 }
 
 some : (s : tie.Start) → 0 < length (s .args .a .now)

@@ -11,7 +11,7 @@ use Rattle.product.specs.declared.mode.Mode.the-variants.{All}
 use Rattle.product.specs.declared.outcome.Product.{Product}
 use Rattle.product.specs.Accuracy.{Fitting}
 use Rattle.product.specs.Products.{Counted, GivesProduct, generalProduct}
-use Rattle.product.proofs.MultipliedLaws.{multiplied-same}
+use Rattle.product.proofs.ProductsLaws.{multiplied-same}
 use Rattle.arithmetic.specs.Inverse.{squared}
 use Rattle.arithmetic.proofs.inverse.put_square.Statement.{statement}
 use Rattle.arithmetic.proofs.inverse.put_square.Tie as tie

@@ -15,16 +15,16 @@ use Rattle.masks.proofs.BladeLaws.{set-laid}
 use Rattle.masks.proofs.ListLaws.{take-laid}
 use Rattle.masks.proofs.OrderLaws.{blades-le}
 use Rattle.product.specs.declared.mode.Mode.the-variants.{All}
-use Rattle.product.proofs.GatherLaws.{product-length}
+use Rattle.product.proofs.PairwiseLaws.{product-length}
 use Rattle.arithmetic.specs.Scalar.{testOf}
 use Rattle.arithmetic.specs.Inverse.{squared, lessScalar}
-use Rattle.arithmetic.proofs.KeptLaws.{KeptFits}
-use Rattle.arithmetic.proofs.InverseLaws.{less-scalar-length, copy-whole}
+use Rattle.arithmetic.proofs.KeptLaws.{Accepted, copy-whole}
+use Rattle.arithmetic.proofs.InverseLaws.{less-scalar-length}
 use Rattle.arithmetic.proofs.inverse.test_square.Statement.{statement}
 use Rattle.arithmetic.proofs.inverse.test_square.Tie as tie
 
 -- The array x, written at place 0 after the copy, is the value less its scalar; its square, in the array y, is tested.
-module _ (s : Shape) (a : List Float) (r : Answer) (x copy y : List Float) (g : Gives (setDims s (s .dims) a (length x)) r x copy) (f : KeptFits s a (length x)) where
+module _ (s : Shape) (a : List Float) (r : Answer) (x copy y : List Float) (g : Gives (setDims s (s .dims) a (length x)) r x copy) (f : Accepted s a (length x)) where
   some : 0 < length a
   some = omega (arith, f .counted, pow-pos (s .dims))
 
@@ -49,7 +49,7 @@ module _ (s : Shape) (a : List Float) (r : Answer) (x copy y : List Float) (g : 
       ∙ take-laid (length a - 0) (squared s (lessScalar a)) y k
 
 module _ (s : tie.Start) where
-  fits : KeptFits (s .args .shape) (s .args .a .now) 512
+  fits : Accepted (s .args .shape) (s .args .a .now) 512
   fits = record { small = s .pre .0; counted = s .pre .1; roomy = blades-le _ (s .pre .0) }
 
   few : length (s .args .a .now) ≤ 512

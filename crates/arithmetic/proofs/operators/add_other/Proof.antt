@@ -13,11 +13,11 @@ use Rattle.masks.specs.Shape.{conformedShape, conform}
 use Rattle.masks.proofs.ListLaws.{take-laid}
 use Rattle.masks.proofs.OrderLaws.{blades-le, blades-counted}
 use Rattle.masks.proofs.ChangeLaws.{paired, conform-dims, conform-lengths}
-use Rattle.product.proofs.RefusalLaws.{meeting}
-use Rattle.product.proofs.PlacesLaws.{laid-over}
+use Rattle.product.specs.Products.{meetingDims}
+use Rattle.product.proofs.ListLaws.{laid-over}
 use Rattle.arithmetic.specs.declared.operators.Sum.{Sum}
 use Rattle.arithmetic.specs.Operators.{summedEach, summedPair}
-use Rattle.arithmetic.proofs.OperatorLaws.{each-length}
+use Rattle.arithmetic.proofs.OperatorsLaws.{each-length}
 use borrow.Author.Needs.{needs}
 use Rattle.arithmetic.proofs.operators.add_other.Statement.{statement}
 use Rattle.arithmetic.proofs.operators.add_other.Tie as tie
@@ -73,7 +73,7 @@ module _ (s t : Shape) (a b : List Float) (room : ℕ) (r : Answers) (bx ax by a
     small =
         let q = pair-done _ _ (numbered ∙ z) in
         rw (ap (λ (x : Answers). x .left .dims) (g .answered), ap (λ (o : Pair). o .leftShape .dims) (q .1))
-        (paired (s .dims) (t .dims) (meeting s t a b) (length a) (length b) room 512 (q .0) .result)
+        (paired (s .dims) (t .dims) (meetingDims s t) (length a) (length b) room 512 (q .0) .result)
 
     left-length : length (p .leftCoefs) ≡ 2 ^ r .left .dims
     left-length = conform-lengths s t a b room 512 (numbered ∙ z) .0 ∙ ap (λ (q : Answers). 2 ^ q .left .dims) (sym (g .answered))

@@ -14,7 +14,7 @@ use Rattle.masks.specs.Shape.{conformTo}
 use Rattle.arithmetic.specs.declared.operators.Sum.{Sum}
 use Rattle.arithmetic.specs.Operators.{withCoefs, summed, summedAt0}
 use Rattle.arithmetic.proofs.KeptLaws.{set-laid}
-use Rattle.arithmetic.proofs.OperatorLaws.{conformed-facts, changed-none, changed}
+use Rattle.arithmetic.proofs.OperatorsLaws.{conformed-facts, changed-none, changed}
 use borrow.Author.Needs.{needs}
 use Rattle.arithmetic.proofs.operators.add_scalar.Statement.{statement}
 use Rattle.arithmetic.proofs.operators.add_scalar.Tie as tie

@@ -7,16 +7,16 @@ use lib.Ieee.{Float}
 use lib.ListN.{length}
 use Rattle.masks.specs.declared.shape.Shape.{Shape}
 use Rattle.masks.specs.declared.outcome.Answer.{Answer}
-use Rattle.masks.specs.Outcome.{Outcome, Gives}
+use Rattle.masks.specs.Outcome.{Outcome, Gives, refusal}
 use Rattle.masks.specs.Shape.{conformTo, conform}
 use Rattle.masks.proofs.RefusalLaws.{gives-refused}
 use Rattle.arithmetic.specs.declared.operators.Sum.{Sum}
 use Rattle.arithmetic.specs.declared.scalar.ScalarTest.{ScalarTest}
 use Rattle.arithmetic.specs.declared.scalar.ScalarTest.the-variants.{Scalar, Planar, Neither}
 use Rattle.arithmetic.specs.Scalar.{isScalar, testOf, ifScalar}
-use Rattle.arithmetic.specs.Operators.{operatorRefusal, withCoefs, summedAt0, summedPair, addition}
+use Rattle.arithmetic.specs.Operators.{operatorTests, withCoefs, summedAt0, summedPair, addition}
 use Rattle.arithmetic.proofs.ScalarLaws.{if-scalar, if-other}
-use Rattle.arithmetic.proofs.OperatorLaws.{operator-passed, by-test, conform-other}
+use Rattle.arithmetic.proofs.OperatorsLaws.{operator-passed, by-test, conform-other}
 use borrow.Author.Needs.{needs}
 use Rattle.arithmetic.proofs.operators.add_values.Statement.{statement}
 use Rattle.arithmetic.proofs.operators.add_values.Tie as tie
@@ -32,7 +32,7 @@ unfolding addition
 returns c = gives-refused _ _ _ _ _ (c .before .before .operator-refusal .ensures) (c .before .if1 .taken) (c .refused .ensures)
 
 -- What is done where it is not refused: the right side's buffer has room for any value.
-module _ (op : Sum) (s t : Shape) (a b : List Float) (room : ℕ) (z : operatorRefusal s t a b room ≡ 0) where
+module _ (op : Sum) (s t : Shape) (a b : List Float) (room : ℕ) (z : refusal (operatorTests s t a b room) ≡ 0) where
   abbrev at0 : Float → Outcome
   at0 f = withCoefs (summedAt0 op f) (conformTo s t a room)
 
@@ -45,11 +45,13 @@ module _ (op : Sum) (s t : Shape) (a b : List Float) (room : ℕ) (z : operatorR
   by T r before after e g =
       rw (by-test s t a b room (testOf t b) at0 (summedPair op (conform s t a b room room)) z refl, buffered (isScalar b) refl, e) g
 
-unrefused : (c : tie.Else1) → let a = c .before .before .before .before .before .args in operatorRefusal (a .left) (a .right) (a .a .now) (a .b .now) (length (a .out .now)) ≡ 0
+unrefused : (c : tie.Else1) → let a = c .before .before .before .before .before .args in refusal (operatorTests (a .left) (a .right) (a .a .now) (a .b .now) (length (a .out .now))) ≡ 0
 unrefused c = sym (c .before .operator-refusal .ensures) ∙ c .if1 .left
 
 test-of-requires : tie.Need-test-of-requires
-test-of-requires c κs = operator-passed _ _ _ _ _ (unrefused c) .countedRight
+test-of-requires c κs =
+    let a = c .before .before .before .before .before .args in
+    operator-passed (a .left) (a .right) (a .a .now) (a .b .now) (length (a .out .now)) (unrefused c) .countedRight
 
 enum-known-kind : tie.Need-enum-known-kind
 enum-known-kind c = search needs

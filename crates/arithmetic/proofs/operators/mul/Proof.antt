@@ -5,7 +5,7 @@ use lib.Ieee.{Float}
 use lib.ListN.{length}
 use Rattle.masks.specs.declared.shape.Shape.{Shape}
 use Rattle.masks.specs.declared.outcome.Answer.{Answer}
-use Rattle.masks.specs.Outcome.{Gives}
+use Rattle.masks.specs.Outcome.{Gives, refusal}
 use Rattle.masks.specs.Shape.{conformTo}
 use Rattle.masks.proofs.RefusalLaws.{gives-refused}
 use Rattle.product.specs.Products.{generalProduct}
@@ -13,8 +13,8 @@ use Rattle.arithmetic.specs.declared.scalar.ScalarTest.{ScalarTest}
 use Rattle.arithmetic.specs.declared.scalar.ScalarTest.the-variants.{Scalar, Planar, Neither}
 use Rattle.arithmetic.specs.Scalar.{testOf, ifScalar}
 use Rattle.arithmetic.specs.Scale.{scaled}
-use Rattle.arithmetic.specs.Operators.{operatorRefusal, withCoefs, multiplication}
-use Rattle.arithmetic.proofs.OperatorLaws.{operator-passed, by-test}
+use Rattle.arithmetic.specs.Operators.{operatorTests, withCoefs, multiplication}
+use Rattle.arithmetic.proofs.OperatorsLaws.{operator-passed, by-test}
 use borrow.Author.Needs.{needs}
 use Rattle.arithmetic.proofs.operators.mul.Statement.{statement}
 use Rattle.arithmetic.proofs.operators.mul.Tie as tie
@@ -30,17 +30,19 @@ unfolding multiplication
 returns c = gives-refused _ _ _ _ _ (c .before .before .operator-refusal .ensures) (c .before .if1 .taken) (c .refused .ensures)
 
 -- What is done where it is not refused.
-by : (s t : Shape) (a b before : List Float) → operatorRefusal s t a b (length before) ≡ 0 → (T : ScalarTest) (r : Answer) (after : List Float) → testOf t b ≡ T
+by : (s t : Shape) (a b before : List Float) → refusal (operatorTests s t a b (length before)) ≡ 0 → (T : ScalarTest) (r : Answer) (after : List Float) → testOf t b ≡ T
     → Gives (ifScalar T (λ f. withCoefs (scaled f) (conformTo s t a (length before))) (generalProduct s t a b (length before) .outcome)) r before after
     → Gives (multiplication s t a b (length before)) r before after
 unfolding multiplication
 by s t a b before z T r after e g = rw (by-test s t a b (length before) T _ _ z e) g
 
-unrefused : (c : tie.Else1) → let a = c .before .before .before .before .before .args in operatorRefusal (a .left) (a .right) (a .a .now) (a .b .now) (length (a .out .now)) ≡ 0
+unrefused : (c : tie.Else1) → let a = c .before .before .before .before .before .args in refusal (operatorTests (a .left) (a .right) (a .a .now) (a .b .now) (length (a .out .now))) ≡ 0
 unrefused c = sym (c .before .operator-refusal .ensures) ∙ c .if1 .left
 
 test-of-requires : tie.Need-test-of-requires
-test-of-requires c κs = operator-passed _ _ _ _ _ (unrefused c) .countedRight
+test-of-requires c κs =
+    let a = c .before .before .before .before .before .args in
+    operator-passed (a .left) (a .right) (a .a .now) (a .b .now) (length (a .out .now)) (unrefused c) .countedRight
 
 enum-known-test : tie.Need-enum-known-test
 enum-known-test c = search needs

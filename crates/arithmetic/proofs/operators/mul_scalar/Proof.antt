@@ -8,7 +8,7 @@ use lib.Ieee.{Float, binary64, eq, mul}
 use Rattle.masks.proofs.OrderLaws.{blades-counted}
 use Rattle.arithmetic.specs.Scale.{unity, scaled}
 use Rattle.arithmetic.proofs.KeptLaws.{scaled-length}
-use Rattle.arithmetic.proofs.OperatorLaws.{conformed-facts, changed-none, changed}
+use Rattle.arithmetic.proofs.OperatorsLaws.{conformed-facts, changed-none, changed}
 use borrow.Author.Needs.{needs}
 use Rattle.arithmetic.proofs.operators.mul_scalar.Statement.{statement}
 use Rattle.arithmetic.proofs.operators.mul_scalar.Tie as tie

@@ -9,7 +9,7 @@ use lib.ListN.{length}
 use Rattle.masks.specs.declared.shape.Shape.{Shape}
 use Rattle.masks.specs.Outcome.{refusal, tooMany, wrongCount, noRoom}
 use Rattle.masks.proofs.RefusalLaws.{later-same}
-use Rattle.arithmetic.specs.Operators.{pairTests, isOther, joinedDims, resultDims, operatorRefusal}
+use Rattle.arithmetic.specs.Operators.{pairTests, isOther, joinedDims, resultDims, operatorTests}
 use Rattle.arithmetic.proofs.operators.operator_refusal.Statement.{statement}
 use Rattle.arithmetic.proofs.operators.operator_refusal.Tie as tie
 
@@ -19,8 +19,8 @@ is-other-requires c κs = search needs
 joined-refusal-requires : tie.Need-joined-refusal-requires
 joined-refusal-requires c κs = search needs
 
-numbered : (s t : Shape) (other : Bool) (a b : List Float) (room : ℕ) → (t .dims ≤ 9 → other ≡ isOther t b) → refusal (pairTests s t (joinedDims s t other) a b room) ≡ operatorRefusal s t a b room
-unfolding operatorRefusal resultDims
+numbered : (s t : Shape) (other : Bool) (a b : List Float) (room : ℕ) → (t .dims ≤ 9 → other ≡ isOther t b) → refusal (pairTests s t (joinedDims s t other) a b room) ≡ refusal (operatorTests s t a b room)
+unfolding resultDims
 numbered s t other a b room h =
     later-same (s .dims) _ _
     (λ l. later-same (t .dims) _ _

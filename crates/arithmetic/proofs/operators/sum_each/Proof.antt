@@ -8,10 +8,10 @@ use lib.Ieee.{Float, nan}
 use lib.ListN.{length, getD, set, take}
 use lib.Seq.{length-take-le, getD-take}
 use Rattle.masks.proofs.ListLaws.{front, front-length, front-step, front-all}
-use Rattle.product.proofs.PlacesLaws.{front-next}
+use Rattle.product.proofs.ListLaws.{front-next}
 use Rattle.arithmetic.specs.declared.operators.Sum.{Sum}
 use Rattle.arithmetic.specs.Operators.{summed, summedEach}
-use Rattle.arithmetic.proofs.OperatorLaws.{each-length}
+use Rattle.arithmetic.proofs.OperatorsLaws.{each-length}
 use Rattle.arithmetic.proofs.operators.sum_each.Statement.{statement}
 use Rattle.arithmetic.proofs.operators.sum_each.Tie as tie
 

@@ -18,8 +18,8 @@ use Rattle.masks.proofs.OrderLaws.{blades-counted}
 use Rattle.masks.proofs.ChangeLaws.{checks, checked, checks-same}
 use Rattle.masks.proofs.RefusalLaws.{taken, refused-already}
 use Rattle.arithmetic.specs.Scalar.{testOf, wasPlanar}
-use Rattle.arithmetic.specs.Power.{isNegative, sizeOf, powerDims, powerRefusal}
-use Rattle.arithmetic.proofs.PowerLaws.{below-zero, and-both, not-both, PowerFits, refused-five, refused-six, refused-none}
+use Rattle.arithmetic.specs.Power.{isNegative, sizeOf, powerDims, powerTests}
+use Rattle.arithmetic.proofs.PowerLaws.{below-zero, and-both, not-both, PowerAccepted, refused-five, refused-six, refused-none}
 use Rattle.arithmetic.proofs.power.power_refusal.Statement.{statement}
 use Rattle.arithmetic.proofs.power.power_refusal.Tie as tie
 
@@ -53,11 +53,10 @@ module _ (c : tie.After-refusal-of) where
       ∙ checks-same (s .dims) _ n (length xs) (a .args .room)
       (λ l. c .before .before .power-dims .ensures l ∙ ap (λ (y : ℤ). powerDims s (sizeOf y)) (toZ-ofZ w32 z (a .fits .power)))
 
-  first-refused : (c .refusal-of .result ≡ 0 → ⊥) → c .refusal-of .result ≡ powerRefusal s z xs (a .args .room)
-  unfolding powerRefusal
+  first-refused : (c .refusal-of .result ≡ 0 → ⊥) → c .refusal-of .result ≡ refusal (powerTests s z xs (a .args .room))
   first-refused h = number ∙ sym (refused-already (checks (s .dims) n (length xs) (a .args .room) (2 ^ n)) _ (λ e. h (number ∙ e)))
 
-  fits : c .refusal-of .result ≡ 0 → PowerFits s z xs (a .args .room)
+  fits : c .refusal-of .result ≡ 0 → PowerAccepted s z xs (a .args .room)
   fits e =
       let t = taken (s .dims) n (length xs) (a .args .room) (2 ^ n) (sym number ∙ e) in
       record { small = t .small; result = t .result; counted = t .counted; roomy = t .roomy }

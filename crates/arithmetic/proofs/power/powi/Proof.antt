@@ -13,12 +13,12 @@ use mir.Val.{SFits}
 use mir.ValLaws.{toZ-ofZ}
 use Rattle.masks.specs.declared.outcome.Answer.{Answer}
 use Rattle.masks.specs.declared.shape.Shape.{Shape}
-use Rattle.masks.specs.Outcome.{Gives, laid, value, refusedValue, answerOf}
+use Rattle.masks.specs.Outcome.{Gives, laid, value, refusedValue, answerOf, refusal}
 use Rattle.masks.specs.Shape.{withDims}
 use Rattle.masks.proofs.RefusalLaws.{gives-refused, gives-done}
 use Rattle.arithmetic.specs.Scalar.{testOf, wasPlanar}
-use Rattle.arithmetic.specs.Power.{isNegative, sizeOf, powerDims, powerOf, powerRefusal, power}
-use Rattle.arithmetic.proofs.PowerLaws.{PowerFits, none-refused}
+use Rattle.arithmetic.specs.Power.{isNegative, sizeOf, powerDims, powerOf, powerTests, power}
+use Rattle.arithmetic.proofs.PowerLaws.{PowerAccepted, none-refused}
 use Rattle.arithmetic.proofs.power.powi.Statement.{statement}
 use Rattle.arithmetic.proofs.power.powi.Tie as tie
 
@@ -30,16 +30,16 @@ size-small (negsuc n) f h = below n (f .sfits) h
     below n l g = omega (arith, g)
 
 -- What the calls are given is the power y that is read back from its bits.
-module _ (s : Shape) (y z : ℤ) (a out : List Float) (b : y ≡ z) (no : ℕ) (e : no ≡ powerRefusal s y a (length out)) where
-  number : no ≡ powerRefusal s z a (length out)
-  number = e ∙ ap (λ (x : ℤ). powerRefusal s x a (length out)) b
+module _ (s : Shape) (y z : ℤ) (a out : List Float) (b : y ≡ z) (no : ℕ) (e : no ≡ refusal (powerTests s y a (length out))) where
+  number : no ≡ refusal (powerTests s z a (length out))
+  number = e ∙ ap (λ (x : ℤ). refusal (powerTests s x a (length out))) b
 
   not-done : (r : Answer) → (no ≡ 0 → ⊥) → r ≡ answerOf (refusedValue no) → Gives (power s z a (length out)) r out out
   unfolding power
-  not-done r h q = gives-refused (powerRefusal s z a (length out)) no _ r out number h q
+  not-done r h q = gives-refused (refusal (powerTests s z a (length out))) no _ r out number h q
 
   module _ (d : no ≡ 0) where
-    known : PowerFits s z a (length out) × ((isNegative z && wasPlanar (testOf s a)) ≡ false) × (sizeOf z ≡ 2 ^ 31 → ⊥)
+    known : PowerAccepted s z a (length out) × ((isNegative z && wasPlanar (testOf s a)) ≡ false) × (sizeOf z ≡ 2 ^ 31 → ⊥)
     known = none-refused s z a (length out) (sym number ∙ d)
 
     asked : SFits w32 z → ((powerDims s (sizeOf y) ≤ 9) × (s .dims ≤ 9) × (sizeOf y < 2 ^ 31) × ((isNegative y && wasPlanar (testOf s a)) ≡ false)) × (length a ≡ 2 ^ s .dims) × (2 ^ powerDims s (sizeOf y) ≤ length out)
@@ -48,7 +48,7 @@ module _ (s : Shape) (y z : ℤ) (a out : List Float) (b : y ≡ z) (no : ℕ) (
     all-done : (after : List Float) (n : ℕ) (u : Shape) (r : Answer) → after ≡ laid (powerOf s y a) out → (s .dims ≤ 9 → n ≡ powerDims s (sizeOf y)) → u ≡ withDims s n → r ≡ answerOf (value u []) → Gives (power s z a (length out)) r out after
     unfolding power
     all-done after n u r q m w t =
-        gives-done (powerRefusal s z a (length out)) no (value (withDims s (powerDims s (sizeOf z))) (powerOf s z a)) r out after number d
+        gives-done (refusal (powerTests s z a (length out))) no (value (withDims s (powerDims s (sizeOf z))) (powerOf s z a)) r out after number d
         (t ∙ ap (λ (v : Shape). answerOf (value v [])) (w ∙ ap (withDims s) (m (known .0 .small) ∙ ap (λ (x : ℤ). powerDims s (sizeOf x)) b)))
         (q ∙ ap (λ (x : ℤ). laid (powerOf s x a) out) b)
 

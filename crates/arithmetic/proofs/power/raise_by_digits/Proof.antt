@@ -21,15 +21,15 @@ use Rattle.masks.specs.Outcome.{Outcome, Gives, value, laid}
 use Rattle.masks.specs.Shape.{withDims}
 use Rattle.masks.proofs.BuildLaws.{length-grade-set, one-built}
 use Rattle.masks.proofs.ListLaws.{laid-length, take-laid}
+use Rattle.product.proofs.ListLaws.{laid-over}
 use Rattle.masks.proofs.OrderLaws.{blades-le}
 use Rattle.product.specs.declared.mode.Mode.the-variants.{All}
-use Rattle.product.proofs.GatherLaws.{product-length}
+use Rattle.product.proofs.PairwiseLaws.{product-length}
 use Rattle.arithmetic.specs.Scale.{unity}
 use Rattle.arithmetic.specs.Operators.{multiplication}
 use Rattle.arithmetic.specs.Dual.{ample}
 use Rattle.arithmetic.specs.Inverse.{squared}
 use Rattle.arithmetic.specs.Power.{raised, byDigits}
-use Rattle.arithmetic.proofs.KeptLaws.{laid-again}
 use Rattle.arithmetic.proofs.PowerLaws.{raised-none, raised-next, copied-front, grown-length}
 use Rattle.arithmetic.proofs.power.raise_by_digits.Statement.{statement}
 use Rattle.arithmetic.proofs.power.raise_by_digits.Tie as tie
@@ -53,11 +53,11 @@ kept b = b
 
 -- What was laid over an output is laid over itself.
 over-itself : (xs out after : List Float) → after ≡ laid xs out → after ≡ laid xs after
-over-itself xs out after e = e ∙ sym (laid-again xs xs out refl) ∙ ap (laid xs) (sym e)
+over-itself xs out after e = e ∙ sym (laid-over xs xs out refl) ∙ ap (laid xs) (sym e)
 
 -- What is laid over a value as long is laid over what was there before.
 over-again : (xs ys out mid after : List Float) → length xs ≡ length ys → mid ≡ laid ys out → after ≡ laid xs mid → after ≡ laid xs out
-over-again xs ys out mid after l e q = q ∙ ap (laid xs) e ∙ laid-again xs ys out l
+over-again xs ys out mid after l e q = q ∙ ap (laid xs) e ∙ laid-over xs ys out l
 
 long-as : (xs out after : List Float) → length xs ≤ length out → after ≡ laid xs out → length after ≡ length out
 long-as xs out after l e = ap length e ∙ laid-length xs out l

@@ -13,7 +13,7 @@ use Rattle.masks.specs.Outcome.{Gives, laid}
 use Rattle.masks.specs.Shape.{setDims}
 use Rattle.masks.proofs.OrderLaws.{blades-le}
 use Rattle.product.specs.declared.mode.Mode.the-variants.{All}
-use Rattle.product.proofs.GatherLaws.{product-length}
+use Rattle.product.proofs.PairwiseLaws.{product-length}
 use Rattle.arithmetic.specs.Inverse.{squared}
 use Rattle.arithmetic.proofs.PowerLaws.{copied-on}
 use Rattle.arithmetic.proofs.power.square_front.Statement.{statement}

@@ -16,7 +16,8 @@ use Rattle.masks.proofs.ChangeLaws.{passed}
 use Rattle.arithmetic.specs.Scalar.{testOf, wasPlanar}
 use Rattle.arithmetic.specs.Operators.{pairTests, isOther}
 use Rattle.arithmetic.specs.Quotient.{quotientDims, quotient}
-use Rattle.arithmetic.proofs.InverseLaws.{inverse-length, quotient-by-scalar, gives-planar, quotient-by-other}
+use Rattle.arithmetic.proofs.InverseLaws.{inverse-length}
+use Rattle.arithmetic.proofs.QuotientLaws.{quotient-by-scalar, gives-planar, quotient-by-other}
 use Rattle.arithmetic.proofs.quotient.div.Statement.{statement}
 use Rattle.arithmetic.proofs.quotient.div.Tie as tie
 

@@ -1,6 +1,6 @@
 -- `arithmetic::quotient::planar_refusal` meets its contract: 5 where an operator is not refused. Assumes nothing.
 use borrow.Author.Needs.{needs}
-use Rattle.arithmetic.proofs.InverseLaws.{planar-refused, planar-five}
+use Rattle.arithmetic.proofs.QuotientLaws.{planar-refused, planar-five}
 use Rattle.arithmetic.proofs.quotient.planar_refusal.Statement.{statement}
 use Rattle.arithmetic.proofs.quotient.planar_refusal.Tie as tie
 

@@ -22,7 +22,7 @@ use Rattle.masks.proofs.OrderLaws.{part-fits, start-next, start-all, order-ones
 use Rattle.masks.proofs.ShapeLaws.{part-length, part-at}
 use Rattle.product.specs.Pairwise.{maskAt}
 use Rattle.product.specs.Reverse.{reversed}
-use Rattle.product.proofs.ReversedLaws.{reversed-at}
+use Rattle.product.proofs.ReverseLaws.{reversed-at}
 use Rattle.arithmetic.specs.Reverse.{invReversed}
 use Rattle.arithmetic.proofs.ReverseLaws.{reversed-length, inv-reversed-length, inv-reversed-at}
 use Rattle.arithmetic.proofs.reverse.turn_grades.Statement.{statement}

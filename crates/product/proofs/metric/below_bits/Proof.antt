@@ -5,7 +5,7 @@ use lib.Dec.{T, eqb, eqb→eq}
 use lib.Bits.{bitAnd, bitXor}
 use Rattle.clifford.specs.Blade.{has, count}
 use Rattle.masks.proofs.Computed.{upto, upto-at}
-use Rattle.product.specs.inner.ByOnes.{maskOf, oddBelow}
+use Rattle.product.specs.inner.Metric.{maskOf, oddBelow}
 use Rattle.product.proofs.metric.below_bits.Statement.{statement}
 use Rattle.product.proofs.metric.below_bits.Tie as tie
 

@@ -3,7 +3,7 @@ use mathlib.Core.Path.{ap}
 use Prim.Native.Nat.{ℕ}
 use lib.Bits.{bitAnd, bitXor}
 use borrow.Author.Needs.{needs}
-use Rattle.product.specs.inner.ByOnes.{bladeOf}
+use Rattle.product.specs.inner.Metric.{bladeOf}
 use Rattle.product.proofs.metric.blade_of.Statement.{statement}
 use Rattle.product.proofs.metric.blade_of.Tie as tie
 

@@ -11,8 +11,8 @@ use Rattle.clifford.proofs.SignLaws.{sign-even, sign-odd}
 use Rattle.masks.specs.declared.flavor.Flavor.{Flavor}
 use Rattle.masks.specs.Flavor.{metricValue}
 use Rattle.product.specs.Mode.{flavorFor, pairMetric}
-use Rattle.product.specs.inner.ByOnes.{squaresBelow, bladeOf}
-use Rattle.product.proofs.ByOnesLaws.{pair-untaken, pair-null, pair-sign}
+use Rattle.product.specs.inner.Metric.{squaresBelow, bladeOf}
+use Rattle.product.proofs.MetricLaws.{pair-untaken, pair-null, pair-sign}
 use Rattle.product.proofs.metric.pair_metric.Statement.{statement}
 use Rattle.product.proofs.metric.pair_metric.Tie as tie
 

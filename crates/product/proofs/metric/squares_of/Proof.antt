@@ -6,8 +6,8 @@ use native.Mathlib.Nat.{lt-trans, pow-suc}
 use native.Mathlib.Numerals.{add-one}
 use lib.Pow.{pow-lt}
 use borrow.Author.Needs.{needs}
-use Rattle.product.specs.inner.ByOnes.{maskOf, squaresBelow}
-use Rattle.product.proofs.ByOnesLaws.{mask-lt, square-more}
+use Rattle.product.specs.inner.Metric.{maskOf, squaresBelow}
+use Rattle.product.proofs.MetricLaws.{mask-lt, square-more}
 use Rattle.product.proofs.metric.squares_of.Statement.{statement}
 use Rattle.product.proofs.metric.squares_of.Tie as tie
 

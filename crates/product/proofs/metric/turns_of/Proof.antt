@@ -4,8 +4,8 @@ use lib.Bits.{bitXor}
 use borrow.Author.Needs.{needs}
 use borrow.Author.Tests.{eq-eqb, ne-eqb}
 use Rattle.clifford.specs.Metric.{turned}
-use Rattle.product.specs.inner.ByOnes.{turns}
-use Rattle.product.proofs.ByOnesLaws.{turned-one-le}
+use Rattle.product.specs.inner.Metric.{turns}
+use Rattle.product.proofs.MetricLaws.{turned-one-le}
 use Rattle.product.proofs.metric.turns_of.Statement.{statement}
 use Rattle.product.proofs.metric.turns_of.Tie as tie
 

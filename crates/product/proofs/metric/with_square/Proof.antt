@@ -2,7 +2,7 @@
 use native.Mathlib.Nat.{add-zero}
 use borrow.Author.Needs.{needs}
 use Rattle.masks.specs.Flavor.{metricValue}
-use Rattle.product.specs.inner.ByOnes.{withSquare}
+use Rattle.product.specs.inner.Metric.{withSquare}
 use Rattle.product.proofs.metric.with_square.Statement.{statement}
 use Rattle.product.proofs.metric.with_square.Tie as tie
 

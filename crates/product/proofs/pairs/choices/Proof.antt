@@ -3,7 +3,7 @@ use mathlib.Core.Path.{ap₂}
 use Prim.Native.Nat.{ℕ, _*_, _^_, _≤_}
 use native.Mathlib.Omega.{arith}
 use borrow.Author.Needs.{needs}
-use Rattle.product.proofs.PowerLaws.{powers-grow}
+use Rattle.product.proofs.PairsBounds.{powers-grow}
 use Rattle.product.proofs.pairs.choices.Statement.{statement}
 use Rattle.product.proofs.pairs.choices.Tie as tie
 

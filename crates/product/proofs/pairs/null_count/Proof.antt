@@ -9,7 +9,7 @@ use lib.IntN.{ℤ}
 use Rattle.clifford.specs.Blade.{count}
 use Rattle.clifford.specs.Pairs.{nonzero, nulls}
 use Rattle.masks.specs.Flavor.{metricOf}
-use Rattle.product.proofs.PowerLaws.{nulls-le}
+use Rattle.product.proofs.PairsBounds.{nulls-le}
 use Rattle.product.proofs.pairs.null_count.Statement.{statement}
 use Rattle.product.proofs.pairs.null_count.Tie as tie
 

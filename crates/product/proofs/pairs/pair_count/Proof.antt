@@ -9,8 +9,8 @@ use Rattle.masks.specs.Flavor.{nullFlavor}
 use Rattle.product.specs.declared.mode.Mode.the-variants.{All, Outer}
 use Rattle.product.specs.Mode.{takes, squares, flavorFor}
 use Rattle.product.specs.Pairwise.{pairsOf}
-use Rattle.product.proofs.CountingLaws.{pairs-all, pairs-left, pairs-right, pairs-inner}
-use Rattle.product.proofs.PowerLaws.{nulls-le}
+use Rattle.product.proofs.PairsLaws.{pairs-all, pairs-left, pairs-right, pairs-inner}
+use Rattle.product.proofs.PairsBounds.{nulls-le}
 use Rattle.product.proofs.pairs.pair_count.Statement.{statement}
 use Rattle.product.proofs.pairs.pair_count.Tie as tie
 

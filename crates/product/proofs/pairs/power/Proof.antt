@@ -4,7 +4,7 @@ use Prim.Native.Nat.{_+_, _-_, _*_, _^_, _≤_}
 use native.Mathlib.Nat.{pow-zero, pow-suc}
 use native.Mathlib.Numerals.{add-one}
 use native.Mathlib.Omega.{arith}
-use Rattle.product.proofs.PowerLaws.{power-grows}
+use Rattle.product.proofs.PairsBounds.{power-grows}
 use Rattle.product.proofs.pairs.power.Statement.{statement}
 use Rattle.product.proofs.pairs.power.Tie as tie
 

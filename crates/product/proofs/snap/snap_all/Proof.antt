@@ -9,7 +9,7 @@ use lib.ListN.{length, getD, set, take}
 use Rattle.rounding.specs.Snap.{snap}
 use Rattle.masks.proofs.ListLaws.{front, front-length, front-step, front-all}
 use Rattle.masks.proofs.ShapeLaws.{part-length, part-at}
-use Rattle.product.proofs.PlacesLaws.{front-next}
+use Rattle.product.proofs.ListLaws.{front-next}
 use Rattle.product.proofs.snap.snap_all.Statement.{statement}
 use Rattle.product.proofs.snap.snap_all.Tie as tie
 

@@ -4,7 +4,7 @@ use lib.Dec.{T}
 use lib.Ieee.{binary64, toBits}
 use lib.Ieee.Compare.{differs-from-itself}
 use borrow.Author.Needs.{needs}
-use Rattle.arithmetic.proofs.ComparisonLaws.{ne-self}
+use Rattle.arithmetic.proofs.CompareLaws.{ne-self}
 use Rattle.sheets.proofs.PatternsLaws.{nan-pattern}
 use Rattle.sheets.proofs.patterns.pattern_of.Statement.{statement}
 use Rattle.sheets.proofs.patterns.pattern_of.Tie as tie
