@@ -8,7 +8,11 @@ fn made(root: &Path) -> PathBuf {
     for source in ["crates", "crates.txt", "tools/native-archive"] {
         println!("cargo:rerun-if-changed={}", root.join(source).display());
     }
-    let tool = Command::new("bash").args(["tools/native-archive", "exports"]).current_dir(root).stderr(Stdio::inherit()).output();
+    let tool = Command::new("bash")
+        .args(["tools/native-archive", "exports"])
+        .current_dir(root)
+        .stderr(Stdio::inherit())
+        .output();
     let said = tool.expect("bash is at hand");
     assert!(said.status.success(), "tools/native-archive made no archive");
     let lines = String::from_utf8(said.stdout).expect("text");

@@ -3,7 +3,9 @@ use crate::arithmetic::*;
 use crate::line::Call;
 use crate::lists::{FLAVORS, around, dims, room};
 use crate::numbers::{Rng, SPECIAL, edges};
-use crate::product_lists::{PROJECTIVE, THREE, VANILLA, Words, all_lists, factor, few_dims, flavor, flavors, many, unit};
+use crate::product_lists::{
+    PROJECTIVE, THREE, VANILLA, Words, all_lists, factor, few_dims, flavor, flavors, many, unit,
+};
 
 /// Dimensions and a flavor.
 pub type Shape = (u64, Words);

@@ -48,7 +48,8 @@ fn of_two(r: &mut Rng, each: &mut impl FnMut(Call)) {
     let count = |d: u64| if d > 9 { 4usize } else { 1 << d };
     for (d, e, k) in shapes {
         let (f, g) = sides(k);
-        let counts = [(1, 1), (0, 1), (2, 1), (1, 0), (1, 2), (0, 0)].map(|(x, y)| (count(d) + x - 1, count(e) + y - 1));
+        let counts =
+            [(1, 1), (0, 1), (2, 1), (1, 0), (1, 2), (0, 0)].map(|(x, y)| (count(d) + x - 1, count(e) + y - 1));
         for (n, m) in counts {
             let any = at(r, m, &[(0, 1.0), (1, 2.0)]);
             for b in [any, plain(m, false), plain(m, true)] {

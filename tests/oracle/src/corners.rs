@@ -256,7 +256,14 @@ fn call(text: &str) -> Call {
 pub fn all(each: &mut impl FnMut(Call)) {
     CASES.iter().for_each(|text| each(call(text)));
     let a = vec![1.0, 2.0, 3.0, 4.0];
-    each(Call { op: SET_BLADE, words: vec![2, 0, 0, 0, 0, 16], a: a.clone(), b: vec![5.0], room: 33, ..Call::default() });
+    each(Call {
+        op: SET_BLADE,
+        words: vec![2, 0, 0, 0, 0, 16],
+        a: a.clone(),
+        b: vec![5.0],
+        room: 33,
+        ..Call::default()
+    });
     each(Call { op: SET_DIMS, words: vec![2, 0, 0, 0, 0, 5], a, room: 33, ..Call::default() });
     numbers(each);
     counts(each);
@@ -286,7 +293,8 @@ fn counts(each: &mut impl FnMut(Call)) {
 /// Every call refused for dimensions, a count and the output's length, alone and with those that come after.
 fn refused(each: &mut impl FnMut(Call)) {
     for op in ONE {
-        for (d, n, room) in [(10, 1, 0), (10, 2, 4), (255, 0, 4), (1, 0, 4), (1, 1, 0), (1, 3, 4), (1, 2, 1), (2, 4, 0)] {
+        for (d, n, room) in [(10, 1, 0), (10, 2, 4), (255, 0, 4), (1, 0, 4), (1, 1, 0), (1, 3, 4), (1, 2, 1), (2, 4, 0)]
+        {
             let (s, a) = ((d, VANILLA), [3.0, 0.0, 0.0, 4.0][..n].to_vec());
             each(match op {
                 POWI => power_of(s, a, -1, room),

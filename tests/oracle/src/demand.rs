@@ -44,7 +44,8 @@ fn demanded(count: u64, seed: u64) {
             }
             Demand::Exact => {
                 exact.count(exact_case(&c, &sums) && each.all(|(s, x)| s.exactly(*x)));
-                beside.count(sums.iter().zip(&coefs).all(|(s, x)| !s.exactly(x.next_up()) && !s.exactly(x.next_down())));
+                beside
+                    .count(sums.iter().zip(&coefs).all(|(s, x)| !s.exactly(x.next_up()) && !s.exactly(x.next_down())));
             }
         }
     });
@@ -82,7 +83,11 @@ fn laws(count: u64, seed: u64) {
     grouped.says("three factors on the grid that group either way");
     reversed.says("products on the grid that reverse");
     let some = apart.good > 0;
-    println!("{}: three factors off the grid that differ by their grouping: {}", if some { "ok" } else { "FAILED" }, apart.good);
+    println!(
+        "{}: three factors off the grid that differ by their grouping: {}",
+        if some { "ok" } else { "FAILED" },
+        apart.good
+    );
 }
 
 /// The pairs of each product by its definition, its closed form and the Rust's tables, for all dimensions.

@@ -4,7 +4,8 @@ use crate::masks::*;
 use crate::numbers::Rng;
 
 /// Flavors as words, Cl with null and negative indices, and one that has no index left.
-pub const FLAVORS: [[u64; 4]; 6] = [[0, 0, 0, 0], [1, 0, 0, 0], [2, 3, 0, 1], [2, 1, 2, 0], [2, 0, 1, 1], [2, 0, 0, 255]];
+pub const FLAVORS: [[u64; 4]; 6] =
+    [[0, 0, 0, 0], [1, 0, 0, 0], [2, 3, 0, 1], [2, 1, 2, 0], [2, 0, 1, 1], [2, 0, 0, 255]];
 
 fn flavor(r: &mut Rng) -> [u64; 4] {
     match r.below(8) {
@@ -70,7 +71,9 @@ pub fn random(r: &mut Rng, op: u64, most: usize) -> Call {
             c.a.clear();
             c.room = r.below(17)
         }
-        SET_DIMS | SET_FLAVOR | CONFORM_TO | CONFORM | UNPACK_ALL | UNPACK_EVEN | UNPACK_ODD => at_shape(r, &mut c, most),
+        SET_DIMS | SET_FLAVOR | CONFORM_TO | CONFORM | UNPACK_ALL | UNPACK_EVEN | UNPACK_ODD => {
+            at_shape(r, &mut c, most)
+        }
         GET_BLADE | SET_BLADE | GRADE => of_blade(r, &mut c),
         _ => of_numbers(r, &mut c),
     }

@@ -75,7 +75,7 @@ pub const SPECIAL: [f64; 24] = [
     -2.5,
     5e-324,
     -5e-324,
-    2.2250738585072009e-308,
+    f64::from_bits(0x000f_ffff_ffff_ffff),
     f64::MIN_POSITIVE,
     f64::from_bits(0x26f0_0000_0000_0000),
     f64::from_bits(0x58f0_0000_0000_0000),
@@ -100,7 +100,8 @@ pub fn edges() -> Vec<f64> {
     for x in [2f64.powi(-46), 2f64.powi(-47), 1e-14] {
         list.extend([-x, x, steps(x, 1), steps(x, -1), -steps(x, -1)]);
     }
-    for (w, above, below) in [(1, 45, 90), (2, 22, 45), (4, 11, 22), (8, 5, 11), (16, 2, 5), (32, 1, 2), (64, 0, 1), (128, 0, 0)]
+    for (w, above, below) in
+        [(1, 45, 90), (2, 22, 45), (4, 11, 22), (8, 5, 11), (16, 2, 5), (32, 1, 2), (64, 0, 1), (128, 0, 0)]
     {
         list.extend([above, above + 1, -below, -below - 1].map(|k| steps(w as f64, k)));
     }

@@ -45,7 +45,10 @@ pub const PATTERNS: [u64; 23] = [
 /// A sheet of these shapes, its patterns those above from one on, over and over.
 pub fn sheet(shapes: &[Shape], from: usize) -> Sheet {
     let n = shapes.iter().map(|s| 1usize << s.dims).sum();
-    Sheet { shapes: shapes.to_vec(), patterns: PATTERNS.iter().copied().cycle().skip(from % PATTERNS.len()).take(n).collect() }
+    Sheet {
+        shapes: shapes.to_vec(),
+        patterns: PATTERNS.iter().copied().cycle().skip(from % PATTERNS.len()).take(n).collect(),
+    }
 }
 
 pub fn read(bytes: &[u8], room: usize) -> SheetCall {

@@ -2,8 +2,8 @@
 use crate::line::{Call, SheetCall};
 use crate::numbers::Rng;
 use crate::{
-    arithmetic, arithmetic_lists, corners, lists, masks, product_lists, product_whole, products, refusals, sheet_damage,
-    sheet_stored, whole_lists,
+    arithmetic, arithmetic_lists, corners, lists, masks, product_lists, product_whole, products, refusals,
+    sheet_damage, sheet_stored, whole_lists,
 };
 
 /// What takes calls, one after the other.

@@ -138,7 +138,9 @@ fn packed(r: &mut Rng, each: &mut impl FnMut(Call)) {
 /// Every special value, at d = 0 and in each place of d = 3, through each call that moves numbers.
 fn special(each: &mut impl FnMut(Call)) {
     for x in SPECIAL {
-        for (op, more) in [(SET_DIMS, vec![4]), (SET_DIMS, vec![2]), (SET_FLAVOR, vec![0, 1, 0, 0, 0]), (UNPACK_ALL, vec![4])] {
+        for (op, more) in
+            [(SET_DIMS, vec![4]), (SET_DIMS, vec![2]), (SET_FLAVOR, vec![0, 1, 0, 0, 0]), (UNPACK_ALL, vec![4])]
+        {
             for place in 0..8 {
                 let mut a = vec![1.5; 8];
                 a[place] = x;
@@ -148,6 +150,13 @@ fn special(each: &mut impl FnMut(Call)) {
         for op in [SCALAR, PSEUDOSCALAR] {
             each(Call { op, words: vec![0, 0, 0, 0, 0], b: vec![x], room: 2, ..Call::default() });
         }
-        each(Call { op: SET_BLADE, words: vec![2, 0, 0, 0, 0, 16], a: vec![x; 4], b: vec![x], room: 32, ..Call::default() });
+        each(Call {
+            op: SET_BLADE,
+            words: vec![2, 0, 0, 0, 0, 16],
+            a: vec![x; 4],
+            b: vec![x],
+            room: 32,
+            ..Call::default()
+        });
     }
 }

@@ -49,7 +49,7 @@ impl<W: Write> Lines<W> {
     }
     /// The way in which the next answer is to be wrong, where it is the hundredth.
     fn kind(&self) -> Option<u64> {
-        (self.wrong == Wrong::Hundredth && (self.made + 1) % 100 == 0).then_some((self.made + 1) / 100)
+        (self.wrong == Wrong::Hundredth && (self.made + 1).is_multiple_of(100)).then_some((self.made + 1) / 100)
     }
     /// Everything is written; how many lines there are.
     pub fn finish(mut self) -> io::Result<u64> {

@@ -86,7 +86,9 @@ fn four_shapes(d: u8) -> Vec<u8> {
 
 fn write_four(shapes: &[u8], patterns: &[u64], to: &mut Lent) -> u8 {
     let (out, room) = (to.bytes.as_mut_ptr(), to.bytes.len());
-    unsafe { sys::thresholm_write(shapes.as_ptr(), shapes.len(), patterns.as_ptr(), patterns.len(), out, room, &mut to.count) }
+    unsafe {
+        sys::thresholm_write(shapes.as_ptr(), shapes.len(), patterns.as_ptr(), patterns.len(), out, room, &mut to.count)
+    }
 }
 
 /// The bit patterns of four values.
@@ -138,7 +140,8 @@ fn patterns_of(d: u8) -> Timed {
 const REFUSALS: &str = "the Rust refuses nothing: it panics or goes on";
 const NAMES: &str = "it only names a shape; in the Rust the value has its own";
 const SHEETS: &str = "the Rust has no sheets";
-const ORDER: &str = "the Rust builds its tables once in a thread and looks them up from then on; here every call builds them";
+const ORDER: &str =
+    "the Rust builds its tables once in a thread and looks them up from then on; here every call builds them";
 
 pub const ROWS: &[Lone] = &[
     Lone { row: Row { call: "refusal_of", of: "", at: refusal_of }, why: REFUSALS },
@@ -148,10 +151,19 @@ pub const ROWS: &[Lone] = &[
     Lone { row: Row { call: "refused", of: "", at: |_| shaped!(thresholm_refused, 0) }, why: NAMES },
     Lone { row: Row { call: "done", of: "", at: |d| shaped!(thresholm_done, d, 1, 0, 0, 0) }, why: NAMES },
     Lone { row: Row { call: "shape_of", of: "", at: |d| shaped!(thresholm_shape_of, d, 1, 0, 0, 0) }, why: NAMES },
-    Lone { row: Row { call: "with_dims", of: "", at: |d| shaped!(thresholm_with_dims, d, 1, 0, 0, 0, d + 1) }, why: NAMES },
-    Lone { row: Row { call: "with_flavor", of: "", at: |d| shaped!(thresholm_with_flavor, d, 1, 0, 0, 0, 0, 0, 0, 0) }, why: NAMES },
+    Lone {
+        row: Row { call: "with_dims", of: "", at: |d| shaped!(thresholm_with_dims, d, 1, 0, 0, 0, d + 1) },
+        why: NAMES,
+    },
+    Lone {
+        row: Row { call: "with_flavor", of: "", at: |d| shaped!(thresholm_with_flavor, d, 1, 0, 0, 0, 0, 0, 0, 0) },
+        why: NAMES,
+    },
     Lone { row: Row { call: "null_flavor", of: "", at: null_flavor }, why: "a constant in the Rust" },
-    Lone { row: Row { call: "promotion", of: "Vanilla to Projective", at: promotion }, why: "part of the Rust's `set_flavor`" },
+    Lone {
+        row: Row { call: "promotion", of: "Vanilla to Projective", at: promotion },
+        why: "part of the Rust's `set_flavor`",
+    },
     Lone { row: Row { call: "blade_count", of: "", at: blade_count }, why: "a shift in the Rust's own calls" },
     Lone { row: Row { call: "order_of", of: "", at: order_of }, why: ORDER },
     Lone { row: Row { call: "read", of: "a sheet of four values", at: read }, why: SHEETS },

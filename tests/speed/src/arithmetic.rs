@@ -104,7 +104,8 @@ fn tested(m: &Multivector) -> (u8, f64, f64) {
 }
 
 fn scalar_test(v: Values) -> Timed {
-    let agree = |(test, re, im): &(u8, f64, f64), to: &Lent| *test == to.test && same(*re, to.value) && same(*im, to.imaginary);
+    let agree =
+        |(test, re, im): &(u8, f64, f64), to: &Lent| *test == to.test && same(*re, to.value) && same(*im, to.imaginary);
     cell(|i| tested(&v.values[i]), asked!(thresholm_scalar_test, v; test, value, imaginary), agree)
 }
 

@@ -52,32 +52,56 @@ fn blades_right(d: u8, count: usize) -> Timed {
 
 fn unpack_all(d: u8, stated: u8) -> Timed {
     let v = dense(Projective, d);
-    cell(|i| uiua::unpack(v.own(i), Some(stated), None).unwrap(), unpacked!(thresholm_unpack_all, v, stated), |r, to| same_list(r, to))
+    cell(
+        |i| uiua::unpack(v.own(i), Some(stated), None).unwrap(),
+        unpacked!(thresholm_unpack_all, v, stated),
+        |r, to| same_list(r, to),
+    )
 }
 
 fn unpack_even(d: u8) -> Timed {
     let v = dense(Projective, d);
-    cell(|i| uiua::unpack(v.own(i), Some(d), Some(Left)).unwrap(), unpacked!(thresholm_unpack_even, v, d), |r, to| same_list(r, to))
+    cell(
+        |i| uiua::unpack(v.own(i), Some(d), Some(Left)).unwrap(),
+        unpacked!(thresholm_unpack_even, v, d),
+        |r, to| same_list(r, to),
+    )
 }
 
 fn unpack_odd(d: u8) -> Timed {
     let v = dense(Projective, d);
-    cell(|i| uiua::unpack(v.own(i), Some(d), Some(Right)).unwrap(), unpacked!(thresholm_unpack_odd, v, d), |r, to| same_list(r, to))
+    cell(
+        |i| uiua::unpack(v.own(i), Some(d), Some(Right)).unwrap(),
+        unpacked!(thresholm_unpack_odd, v, d),
+        |r, to| same_list(r, to),
+    )
 }
 
 fn unpack_own_even(d: u8) -> Timed {
     let v = dense(Projective, d);
-    cell(|i| uiua::unpack(v.own(i), None, Some(Left)).unwrap(), unpacked!(thresholm_unpack_own_even, v), |r, to| same_list(r, to))
+    cell(
+        |i| uiua::unpack(v.own(i), None, Some(Left)).unwrap(),
+        unpacked!(thresholm_unpack_own_even, v),
+        |r, to| same_list(r, to),
+    )
 }
 
 fn unpack_own_odd(d: u8) -> Timed {
     let v = dense(Projective, d);
-    cell(|i| uiua::unpack(v.own(i), None, Some(Right)).unwrap(), unpacked!(thresholm_unpack_own_odd, v), |r, to| same_list(r, to))
+    cell(
+        |i| uiua::unpack(v.own(i), None, Some(Right)).unwrap(),
+        unpacked!(thresholm_unpack_own_odd, v),
+        |r, to| same_list(r, to),
+    )
 }
 
 fn unpack_vector(d: u8) -> Timed {
     let v = dense(Projective, d);
-    cell(|i| uiua::unpack(v.own(i), None, None).unwrap(), unpacked!(thresholm_unpack_vector, v), |r, to| same_list(r, to))
+    cell(
+        |i| uiua::unpack(v.own(i), None, None).unwrap(),
+        unpacked!(thresholm_unpack_vector, v),
+        |r, to| same_list(r, to),
+    )
 }
 
 pub const ROWS: &[Row] = &[

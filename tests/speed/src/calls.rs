@@ -53,7 +53,20 @@ macro_rules! compared {
             let (a, b) = (&v.numbers[i], &w.numbers[(i + $next) % INPUTS]);
             unsafe {
                 sys::$call(
-                    v.dims, v.kind(), 0, 0, 0, w.dims, w.kind(), 0, 0, 0, a.as_ptr(), a.len(), b.as_ptr(), b.len(),
+                    v.dims,
+                    v.kind(),
+                    0,
+                    0,
+                    0,
+                    w.dims,
+                    w.kind(),
+                    0,
+                    0,
+                    0,
+                    a.as_ptr(),
+                    a.len(),
+                    b.as_ptr(),
+                    b.len(),
                     &mut to.$also,
                 )
             }

@@ -43,7 +43,11 @@ fn outer_product(d: u8) -> Timed {
 pub const ROWS: &[Row] = &[
     Row { call: "general_product", of: "Projective", at: |d| general_in(Projective, d) },
     Row { call: "general_product", of: "Vanilla", at: |d| general_in(Vanilla, d) },
-    Row { call: "general_product", of: "Vanilla d by Projective d + 1", at: |d| general(dense(Vanilla, d), dense(Projective, d + 1)) },
+    Row {
+        call: "general_product",
+        of: "Vanilla d by Projective d + 1",
+        at: |d| general(dense(Vanilla, d), dense(Projective, d + 1)),
+    },
     Row { call: "left_contraction", of: "Projective", at: left_contraction },
     Row { call: "right_contraction", of: "Projective", at: right_contraction },
     Row { call: "inner_product", of: "Projective", at: inner_product },

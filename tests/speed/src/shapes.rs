@@ -87,8 +87,16 @@ pub const ROWS: &[Row] = &[
     Row { call: "set_dims", of: "to d - 1", at: |d| set_dims(d, d - 1) },
     Row { call: "set_flavor", of: "Vanilla to Projective", at: |d| set_flavor(dense(Vanilla, d), Projective) },
     Row { call: "set_flavor", of: "Projective to Vanilla", at: |d| set_flavor(dense(Projective, d), Vanilla) },
-    Row { call: "conform_to", of: "Vanilla d to Projective d + 1", at: |d| conform_to(dense(Vanilla, d), dense(Projective, d + 1)) },
-    Row { call: "conform", of: "Vanilla d, Projective d + 1", at: |d| conform(dense(Vanilla, d), dense(Projective, d + 1)) },
+    Row {
+        call: "conform_to",
+        of: "Vanilla d to Projective d + 1",
+        at: |d| conform_to(dense(Vanilla, d), dense(Projective, d + 1)),
+    },
+    Row {
+        call: "conform",
+        of: "Vanilla d, Projective d + 1",
+        at: |d| conform(dense(Vanilla, d), dense(Projective, d + 1)),
+    },
     Row { call: "conform", of: "equal shapes", at: |d| conform(dense(Projective, d), dense(Projective, d)) },
     Row { call: "get_blade", of: "mask 2^d - 2", at: get_blade },
     Row { call: "set_blade", of: "mask 2^d - 2", at: |d| set_blade(d, (1 << d) - 2) },

@@ -60,7 +60,8 @@ fn pass(tables: &mut [Vec<Line>; 3]) -> Result<usize, String> {
     for line in tables.iter_mut().flatten() {
         for (cell, d) in line.cells.iter_mut().zip(DIMS) {
             if !cell.is_steady() {
-                let times = (line.row.at)(d).map_err(|why| format!("{} {}, d = {d}: {why}", line.row.call, line.row.of))?;
+                let times =
+                    (line.row.at)(d).map_err(|why| format!("{} {}, d = {d}: {why}", line.row.call, line.row.of))?;
                 cell.add(times);
                 count += 1;
             }
@@ -90,7 +91,10 @@ fn joined(line: &Line, shown: impl Fn(&Cell) -> String) -> String {
 }
 
 fn print_compared(lines: &[Line]) {
-    println!("| call | of what | d = 2 | 3 | 4 | 5 | 6 | ns at d = {} | spread |\n|---|---|---|---|---|---|---|---|---|", DIMS[SHOWN]);
+    println!(
+        "| call | of what | d = 2 | 3 | 4 | 5 | 6 | ns at d = {} | spread |\n|---|---|---|---|---|---|---|---|---|",
+        DIMS[SHOWN]
+    );
     for l in lines {
         let ratios = joined(l, |c| ratio(c.ratio()));
         println!("| `{}` | {} | {ratios} | {} | {} |", l.row.call, l.row.of, ns(l.cells[SHOWN].ours()), spread(l));
@@ -100,10 +104,16 @@ fn print_compared(lines: &[Line]) {
 /// How many rows are faster than the Rust at each number of dimensions, and how many slower by how much.
 fn print_counts(lines: &[Line]) {
     println!("\n| of these {} rows | d = 2 | 3 | 4 | 5 | 6 |\n|---|---|---|---|---|---|", lines.len());
-    let classes = [("faster than the Rust", 0.0, 1.0), ("up to 1.5", 1.0, SLOW), ("1.5 to 2", SLOW, 2.0), ("above 2", 2.0, f64::MAX)];
+    let classes = [
+        ("faster than the Rust", 0.0, 1.0),
+        ("up to 1.5", 1.0, SLOW),
+        ("1.5 to 2", SLOW, 2.0),
+        ("above 2", 2.0, f64::MAX),
+    ];
     for (name, above, most) in classes {
         let within = |l: &&Line, d: usize| above < l.cells[d].ratio() && l.cells[d].ratio() <= most;
-        let counts: Vec<String> = (0..DIMS.len()).map(|d| lines.iter().filter(|l| within(l, d)).count().to_string()).collect();
+        let counts: Vec<String> =
+            (0..DIMS.len()).map(|d| lines.iter().filter(|l| within(l, d)).count().to_string()).collect();
         println!("| {name} | {} |", counts.join(" | "));
     }
 }

@@ -8,5 +8,5 @@ fn main() {
     let p = src.join("src/algorithm/monadic/multivector.rs");
     println!("cargo:rerun-if-changed={}", p.display());
     let out = PathBuf::from(env::var("OUT_DIR").unwrap()).join("mods.rs");
-    fs::write(out, format!("#[path = {:?}] mod multivector;\n", p.to_str().unwrap())).unwrap();
+    fs::write(out, format!("#[allow(clippy::all)] #[path = {:?}] mod multivector;\n", p.to_str().unwrap())).unwrap();
 }

@@ -17,13 +17,15 @@ fn main() {
     let out = PathBuf::from(env::var("OUT_DIR").unwrap()).join("mods.rs");
     let harness = here.join("src/multivector/harness.rs");
     // `include!` puts the file's text into a module that also has a child
-    // module of ours, which may then reach the private functions.
+    // module of ours, which may then reach the private functions. Clippy
+    // judges what is ours alone: the text of the Rust stays as it is.
     fs::write(
         out,
         format!(
-            "#[path = {complex:?}] pub mod complex;\n\
-             pub mod ga {{ include!({ga:?}); }}\n\
-             pub mod multivector {{ include!({mv:?}); #[path = {harness:?}] pub mod harness; }}\n"
+            "#[allow(clippy::all)] #[path = {complex:?}] pub mod complex;\n\
+             #[allow(clippy::all)] pub mod ga {{ include!({ga:?}); }}\n\
+             #[allow(clippy::all)] pub mod multivector {{ include!({mv:?}); \
+             #[warn(clippy::all)] #[path = {harness:?}] pub mod harness; }}\n"
         ),
     )
     .unwrap();

@@ -54,7 +54,9 @@ fn value(c: &Call, a: Answer, m: &mut Memory) {
     let told = &a.words[a.words.len().min(1)..];
     match lends {
         Lends::Nothing | Lends::OnlyFlavor | Lends::OnlyShape => {}
-        Lends::Flavor | Lends::Shape | Lends::Value | Lends::Values | Lends::Yes | Lends::Test => m.bytes.put(bytes(told)),
+        Lends::Flavor | Lends::Shape | Lends::Value | Lends::Values | Lends::Yes | Lends::Test => {
+            m.bytes.put(bytes(told))
+        }
         Lends::Product | Lends::Taken => m.bytes.put(bytes(&told[..5])),
         Lends::Order => m.order.put([told[0] as i8 - 1].into_iter()),
         Lends::Start => m.counts.put([start(c), told[0] as usize].into_iter()),
@@ -122,7 +124,7 @@ fn lined(c: &SheetCall) -> SheetCall {
 
 /// Bytes past the last whole shape refuse 2, and 1 comes first where a shape that is held has too many dimensions.
 fn sheet(c: &SheetCall, m: &mut Memory) {
-    if [WRITE, VALUE_AT].contains(&c.op) && c.first.len() % 5 != 0 {
+    if [WRITE, VALUE_AT].contains(&c.op) && !c.first.len().is_multiple_of(5) {
         m.returned = if in_words(&c.first).iter().step_by(5).any(|dims| *dims > 9) { 1 } else { 2 };
         return;
     }

@@ -222,6 +222,9 @@ pub fn actual(asked: &Asked, mark: u8) -> Memory {
         Asked::Values(c) => named(c.op, &mut g, &mut m),
         Asked::Sheet(c) => sheet(c.op, &mut g, &mut m),
     };
-    m.kept = g.a.holds(&before.a) && g.b.holds(&before.b) && g.bytes.holds(&before.bytes) && g.patterns.holds(&before.patterns);
+    m.kept = g.a.holds(&before.a)
+        && g.b.holds(&before.b)
+        && g.bytes.holds(&before.bytes)
+        && g.patterns.holds(&before.patterns);
     m
 }

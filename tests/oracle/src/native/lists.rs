@@ -7,8 +7,8 @@ use super::table::can_be_done_from;
 use super::{more_lists, named};
 use crate::numbers::Rng;
 use crate::{
-    arithmetic, arithmetic_lists, arithmetic_refused, corners, lists, masks, product_lists, product_whole, products, refusals,
-    sheet_damage, sheet_lists, sheets, whole_lists,
+    arithmetic, arithmetic_lists, arithmetic_refused, corners, lists, masks, product_lists, product_whole, products,
+    refusals, sheet_damage, sheet_lists, sheets, whole_lists,
 };
 
 /// All that is small, then so many of each call from a seed, and the products that `exact` checks.
@@ -42,7 +42,8 @@ pub fn compared(count: u64, seed: u64, to: &mut impl FnMut(Asked)) {
 fn every_dims(r: &mut Rng, to: &mut impl FnMut(Asked)) {
     for op in (1..=MANY as u64).filter(|op| has_dims(*op)) {
         for d in can_be_done_from(op) as u64..=9 {
-            let fits = |asked: &Asked| asked.dims() == Some(d) && !expected(asked, MARKS[0]).is_refused(known(op).lends);
+            let fits =
+                |asked: &Asked| asked.dims() == Some(d) && !expected(asked, MARKS[0]).is_refused(known(op).lends);
             (0..20_000).map(|_| drawn(r, op)).filter(fits).take(3).for_each(&mut *to);
         }
     }

@@ -34,7 +34,9 @@ pub fn spelled(r: &mut Rng, mut asked: Asked) -> Asked {
                 }
             }
         }
-        Asked::Sheet(c) if [WRITE, VALUE_AT].contains(&c.op) => c.first.chunks_exact_mut(5).for_each(|s| spell(r, &mut s[1..])),
+        Asked::Sheet(c) if [WRITE, VALUE_AT].contains(&c.op) => {
+            c.first.chunks_exact_mut(5).for_each(|s| spell(r, &mut s[1..]))
+        }
         Asked::Sheet(_) => {}
     }
     asked
@@ -105,7 +107,14 @@ fn extremes() -> Vec<f64> {
 }
 
 /// Two values of d dimensions, each with a number at a place and 0 or 1, in turn, at the others: through every product and operator.
-fn pair(d: u32, (f, g): (Words, Words), (i, x): (usize, f64), (j, y): (usize, f64), turn: usize, each: &mut impl FnMut(Call)) {
+fn pair(
+    d: u32,
+    (f, g): (Words, Words),
+    (i, x): (usize, f64),
+    (j, y): (usize, f64),
+    turn: usize,
+    each: &mut impl FnMut(Call),
+) {
     let n = 1usize << d;
     let value = |rest: usize, place: usize, x: f64| {
         let mut list = vec![(rest % 2) as f64; n];

@@ -48,8 +48,14 @@ fn sheet(c: &Plain) -> Option<Sheet> {
     let byte = |w: &u64| *w as u8;
     match c.op {
         READ => ours::read(&c.lists[0].iter().map(byte).collect::<Vec<u8>>()).ok(),
-        WRITE if c.lists[0].len() % 5 == 0 => {
-            let five = |s: &[u64]| Shape { dims: byte(&s[0]), kind: byte(&s[1]), p: byte(&s[2]), n: byte(&s[3]), z: byte(&s[4]) };
+        WRITE if c.lists[0].len().is_multiple_of(5) => {
+            let five = |s: &[u64]| Shape {
+                dims: byte(&s[0]),
+                kind: byte(&s[1]),
+                p: byte(&s[2]),
+                n: byte(&s[3]),
+                z: byte(&s[4]),
+            };
             let s = Sheet { shapes: c.lists[0].chunks(5).map(five).collect(), patterns: c.lists[1].clone() };
             (ours::coefficients(&s.shapes) == Some(s.patterns.len() as u64)).then_some(s)
         }
@@ -103,7 +109,9 @@ impl Move {
         match self {
             Move::Vector(i, lists) => lists.iter().try_for_each(|list| without_vector(&mut c, *list, *i))?,
             Move::Fill(list, at, x) => c.lists[*list].get_mut(at.clone())?.fill(*x),
-            Move::Drop(list, at) => drop(c.lists[*list].get(at.clone()).is_some().then(|| c.lists[*list].drain(at.clone()))?),
+            Move::Drop(list, at) => {
+                drop(c.lists[*list].get(at.clone()).is_some().then(|| c.lists[*list].drain(at.clone()))?)
+            }
             Move::Round(list, i, digits) => *c.lists[*list].get_mut(*i)? &= u64::MAX << digits,
             Move::Unscaled(list, i) => {
                 let x = c.lists[*list].get_mut(*i)?;
@@ -148,10 +156,13 @@ pub fn moves(c: &Plain) -> Vec<Move> {
 fn sheet_moves(s: &Sheet, all: &mut Vec<Move>) {
     let shapes = (0..s.shapes.len()).rev();
     all.extend(shapes.clone().map(Move::DropShape));
-    all.extend(shapes.clone().flat_map(|i| (0..2 * s.shapes[i].dims as usize).map(move |k| Move::LowerShape(i, k % 2))));
+    all.extend(
+        shapes.clone().flat_map(|i| (0..2 * s.shapes[i].dims as usize).map(move |k| Move::LowerShape(i, k % 2))),
+    );
     all.extend(shapes.map(Move::PlainShape));
     all.extend(
-        (0..s.patterns.len()).flat_map(|i| [0, s.patterns[i] & s.patterns[i].wrapping_sub(1)].map(|x| Move::Pattern(i, x))),
+        (0..s.patterns.len())
+            .flat_map(|i| [0, s.patterns[i] & s.patterns[i].wrapping_sub(1)].map(|x| Move::Pattern(i, x))),
     );
 }
 
@@ -202,7 +213,7 @@ fn word_moves(c: &Plain, all: &mut Vec<Move>) {
 
 fn flavor_moves(at: usize, f: &[u64], all: &mut Vec<Move>) {
     all.extend([[0, 0, 0, 0], [1, 0, 0, 0], [2, 0, 0, 0], [2, f[1], f[2], f[3]]].map(|f| Move::Words(at, f.to_vec())));
-    for i in 1..4 {
-        all.extend([0, 1, f[i] / 2, f[i].saturating_sub(1)].map(|w| Move::Words(at + i, vec![w])));
+    for (i, w) in f.iter().enumerate().skip(1) {
+        all.extend([0, 1, w / 2, w.saturating_sub(1)].map(|w| Move::Words(at + i, vec![w])));
     }
 }

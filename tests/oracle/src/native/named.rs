@@ -56,7 +56,9 @@ pub fn exhaustive(each: &mut impl FnMut(Call)) {
     }
     for d in (0..=10u64).chain([255]) {
         let full = 1usize << d.min(9);
-        for (n, grade) in [0, full - 1, full, full + 1].into_iter().flat_map(|n| (0..=11).chain([255]).map(move |g| (n, g))) {
+        for (n, grade) in
+            [0, full - 1, full, full + 1].into_iter().flat_map(|n| (0..=11).chain([255]).map(move |g| (n, g)))
+        {
             let words = [&[d][..], &FLAVORS[n % FLAVORS.len()], &[grade]].concat();
             each(Call { op: GRADE_REFUSAL, words, a: vec![1.5; n], ..Call::default() });
         }

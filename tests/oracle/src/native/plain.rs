@@ -34,7 +34,9 @@ impl Plain {
                 rooms: [c.room, c.room_right],
                 is_sheet: false,
             },
-            Asked::Sheet(c) => Plain { op: c.op, words: c.words, lists: [c.first, c.second], rooms: [c.room, 0], is_sheet: true },
+            Asked::Sheet(c) => {
+                Plain { op: c.op, words: c.words, lists: [c.first, c.second], rooms: [c.room, 0], is_sheet: true }
+            }
         }
     }
     pub fn asked(&self) -> Asked {

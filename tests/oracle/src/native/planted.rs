@@ -98,7 +98,9 @@ const FAULTS: [Planted; 9] = [
     Planted {
         op: READ,
         when: "a pattern is a NaN",
-        spoil: |c, m| flip(m.returned == 0 && (0..c.rooms[0]).any(|i| is_nan(m.patterns.bits(AROUND + i))), &mut m.counts, 1),
+        spoil: |c, m| {
+            flip(m.returned == 0 && (0..c.rooms[0]).any(|i| is_nan(m.patterns.bits(AROUND + i))), &mut m.counts, 1)
+        },
         is_small: |c| c.lists[0].len() == 19 && c.lists[0][2..7] == [0; 5] && c.rooms[0] == 1,
     },
 ];
@@ -125,8 +127,12 @@ fn check_one(fault: &Planted, seed: u64) {
     };
     let (large, small) = (Plain::of(found), Plain::of(&shrunk(&port, found)));
     let start = if (fault.is_small)(&small) && difference(&port, &small.asked()).is_some() { "ok" } else { "FAILED" };
-    let counts = [&small, &large].map(|c| c.words.len() + c.lists.iter().flatten().count() + c.rooms.iter().sum::<usize>());
-    println!("{start}: a fault of {name} where {} is made small: {} numbers and places of {}", fault.when, counts[0], counts[1]);
+    let counts =
+        [&small, &large].map(|c| c.words.len() + c.lists.iter().flatten().count() + c.rooms.iter().sum::<usize>());
+    println!(
+        "{start}: a fault of {name} where {} is made small: {} numbers and places of {}",
+        fault.when, counts[0], counts[1]
+    );
     if start == "FAILED" {
         super::print::call(&small.asked());
     }

@@ -62,7 +62,9 @@ pub fn call(asked: &Asked) {
                 READ => list("bytes", hex(&c.first)),
                 WRITE | VALUE_AT => list("bytes of shapes", hex(&c.first)),
                 NUMBERS_OF => list("patterns", hex(&c.first)),
-                PATTERNS_OF => list("numbers", numbers(&c.first.iter().map(|x| f64::from_bits(*x)).collect::<Vec<_>>())),
+                PATTERNS_OF => {
+                    list("numbers", numbers(&c.first.iter().map(|x| f64::from_bits(*x)).collect::<Vec<_>>()))
+                }
                 _ => {}
             }
             if c.op == WRITE {
@@ -70,7 +72,8 @@ pub fn call(asked: &Asked) {
             }
         }
     }
-    for (name, cells) in LISTS.iter().zip(asked.memory(0).lists()).skip(REFERENCES).filter(|(_, cells)| cells.len() > 0) {
+    for (name, cells) in LISTS.iter().zip(asked.memory(0).lists()).skip(REFERENCES).filter(|(_, cells)| cells.len() > 0)
+    {
         println!("      {name} has room for {}", cells.room());
     }
 }

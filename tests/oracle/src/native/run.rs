@@ -93,7 +93,9 @@ impl<'a> Comparison<'a> {
         self.table.print();
         let missing = self.table.missing();
         match missing.is_empty() {
-            true => println!("ok: each of the {MANY} calls was compared, and with each d from 0 to 9 where it has dimensions"),
+            true => println!(
+                "ok: each of the {MANY} calls was compared, and with each d from 0 to 9 where it has dimensions"
+            ),
             false => println!("FAILED: never compared: {}", missing.join(", ")),
         }
         let start = if self.made >= LEAST { "ok" } else { "FAILED" };

@@ -48,7 +48,9 @@ impl Table {
             }
             if has_dims(op) {
                 list.extend(
-                    (can_be_done_from(op)..NONE).filter(|d| all[*d] == refused[*d]).map(|d| format!("{name} with d = {d}")),
+                    (can_be_done_from(op)..NONE)
+                        .filter(|d| all[*d] == refused[*d])
+                        .map(|d| format!("{name} with d = {d}")),
                 );
             }
         }

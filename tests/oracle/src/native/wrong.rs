@@ -10,9 +10,12 @@ use crate::line::{Call, SheetCall};
 use crate::numbers::Rng;
 use crate::stored::{Takes, stored};
 
-/// What is made wrong, and the calls of which it can be: of all, of those to which anything is lent, references or outputs, or of those that
-/// can be refused and have something to leave alone.
-const KINDS: [(&str, fn(u64) -> bool); 10] = [
+/// What is made wrong, and the calls of which it can be.
+type Kind = (&'static str, fn(u64) -> bool);
+
+/// It can be of all calls, of those to which anything is lent, references or outputs, or of those that can be refused and have something to
+/// leave alone.
+const KINDS: [Kind; 10] = [
     ("another number returned", |_| true),
     ("what goes in changed", |_| true),
     ("a reference told otherwise, by one bit", |op| has_lent(op, 0..REFERENCES)),
@@ -117,7 +120,8 @@ impl Tally {
         for (kind, (text, can_be)) in KINDS.iter().enumerate() {
             let (apart, all) = (self.apart[kind].iter().sum::<u64>(), self.all[kind].iter().sum::<u64>());
             let made = |op: &u64| self.all[kind][*op as usize - 1] > 0;
-            let never: Vec<&str> = (1..=MANY as u64).filter(|op| can_be(*op) && !made(op)).map(|op| known(op).name).collect();
+            let never: Vec<&str> =
+                (1..=MANY as u64).filter(|op| can_be(*op) && !made(op)).map(|op| known(op).name).collect();
             let calls = (1..=MANY as u64).filter(made).count();
             line(apart == all && never.is_empty(), format!("{text}: {apart} of {all} told apart, of {calls} calls"));
             if !never.is_empty() {
