@@ -1,4 +1,4 @@
-//! The calls of the crate `arithmetic`: the refusals as the project's documents order them, and the Rust's own answers.
+//! The calls of the crate `arithmetic`: the refusals by document 01's sentences, and the Rust's own answers.
 use crate::line::{Answer, Call};
 use crate::rules::*;
 use uiua_parser::multivector::harness as rust;
@@ -76,12 +76,15 @@ fn scalar_test(c: &Call) -> Given<Answer> {
     Ok(Answer { words: vec![0, kind], out, right: vec![] })
 }
 
+/// 5: "an inverse is wanted of a planar value".
 fn inverted(c: &Call) -> Given<Answer> {
     let m = kept(c, 0)?;
     unless(is_planar(&m), 5)?;
     Ok(value(run(|| m.inverted())))
 }
 
+/// "1, 2, -1, -2 direct; others start from `scalar`, so under Projective the result has one dimension more". 5 where an inverse is wanted, the
+/// least i32 too (audit, d); 6: "the power is the least i32".
 fn powi(c: &Call) -> Given<Answer> {
     let p = power(c);
     let direct = [1, 2, -1, -2].contains(&p);
@@ -103,6 +106,7 @@ fn operator(c: &Call, make: fn(Multivector, Multivector) -> Multivector) -> Give
     Ok(value(run(|| make(a, b))))
 }
 
+/// Dimensions as of the products, scalars making no difference (audit, c 3).
 fn regressive_product(c: &Call) -> Given<Answer> {
     let (a, b, n) = two_values(c)?;
     room(c.room, 1 << n)?;
@@ -150,7 +154,8 @@ fn done(c: &Call) -> Given<Answer> {
     }
 }
 
-/// A refusal: shape 0 Vanilla and nothing written; or neither scalar nor planar; no; equal; the value 0.
+/// A refusal "returns its number, zero for counts and values, no for a yes or no, equal for an order, neither for the scalar test, .. and shape 0
+/// Vanilla".
 fn refused(op: u64, number: u64) -> Answer {
     let words = match op {
         SCALAR_TEST => vec![number, 2],

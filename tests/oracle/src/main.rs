@@ -5,6 +5,7 @@ mod arithmetic_refused;
 mod corners;
 mod demand;
 mod display;
+mod document;
 mod exact;
 mod line;
 mod lists;

@@ -1,4 +1,5 @@
-//! The calls of the crate `masks`: the refusals as the project's documents order them, and the Rust's own answers.
+//! The calls of the crate `masks`: the refusals by document 01's sentences, and the Rust's own answers.
+use crate::document;
 use crate::line::{Answer, Call};
 use crate::rules::*;
 use uiua::SubSide;
@@ -42,6 +43,7 @@ fn list(v: Vec<f64>) -> Answer {
     Answer { words: vec![0, v.len() as u64], out: v, right: vec![] }
 }
 
+/// Own or stated dimensions above 9 refuse 1 (audit, d), then the count, then the output.
 fn unpacked(c: &Call, d: Option<u64>, side: Option<SubSide>, needed: usize) -> Given<Answer> {
     let (s, own) = (&c.words[..5], c.words[0]);
     dims(own)?;
@@ -52,6 +54,7 @@ fn unpacked(c: &Call, d: Option<u64>, side: Option<SubSide>, needed: usize) -> G
     Ok(list(run(|| uiua::unpack(m, d.map(|d| d as u8), side)).expect("unpacks")))
 }
 
+/// "2^(d-1) numbers; stated d = 0 gives the scalar; own d = 0 gives one number".
 fn half(d: u64) -> usize {
     1 << d.clamp(1, 63) >> 1
 }
@@ -65,7 +68,8 @@ fn made(c: &Call) -> Multivector {
     rust::make(flavor(&c.words[1..5]), &c.a)
 }
 
-/// Grades, masks and the metric.
+/// Grades, masks and the metric. A grade above the dimensions is 0 and no refusal; `metric` is never refused, since an index is no dimension
+/// (audit, d).
 fn of_masks(c: &Call) -> Given<Answer> {
     let w = &c.words;
     Ok(match c.op {
@@ -75,27 +79,33 @@ fn of_masks(c: &Call) -> Given<Answer> {
         }
         BLADE_COUNT => words(vec![if w[0] > 9 { 0 } else { 1 << w[0] }]),
         ORDER_OF => {
-            let d = if w[0] > 9 { 0 } else { w[0] as u8 };
-            let (masks, places) = mask_tables(d);
+            dims(w[0])?;
+            let (masks, places) = mask_tables(w[0] as u8);
             let held = |t: &[usize]| (0..512).map(|i| t.get(i).map_or(0.0, |x| *x as f64)).collect();
-            Answer { words: vec![d as u64], out: held(masks), right: held(places) }
+            Answer { words: vec![0, w[0]], out: held(masks), right: held(places) }
         }
         METRIC => words(vec![(flavor(&w[1..]).metric(w[5] as u8) + 1) as u64]),
         _ => return of_flavors(c),
     })
 }
 
+/// The flavor that a text says. Where no byte is above 127, the Rust must have none (7), an error (8) or a flavor as document 01 says.
+fn read_flavor(w: &[u64]) -> Given<Flavor> {
+    let bytes: Vec<u8> = w.iter().map(|b| *b as u8).collect();
+    let refused = document::text(&bytes);
+    let Some(text) = std::str::from_utf8(&bytes).ok().filter(|text| text.is_ascii()) else {
+        return refused.map(|()| unreachable!("a byte above 127 is refused"));
+    };
+    let read = run(|| Flavor::try_from_str(text)).ok_or(7).and_then(|read| read.map_err(|_| 8));
+    assert_eq!(refused, read.map(|_| ()), "the Rust reads just the texts that document 01 does not refuse");
+    read
+}
+
 /// Flavors, their text, and shapes that are only named.
 fn of_flavors(c: &Call) -> Given<Answer> {
     let w = &c.words;
     Ok(match c.op {
-        TRY_FROM_STR => {
-            let bytes: Vec<u8> = w.iter().map(|b| *b as u8).collect();
-            unless(bytes.iter().any(|b| *b > 127), 7)?;
-            let read = Flavor::try_from_str(std::str::from_utf8(&bytes).unwrap());
-            let f = read.ok_or(7u64)?.map_err(|_| 8u64)?;
-            words([vec![0], flavor_words(f).to_vec()].concat())
-        }
+        TRY_FROM_STR => words([vec![0], flavor_words(read_flavor(w)?).to_vec()].concat()),
         WRITE_TO => {
             let text = flavor(&w[1..]).to_string();
             room(c.room, text.len())?;
@@ -114,7 +124,7 @@ fn of_flavors(c: &Call) -> Given<Answer> {
     })
 }
 
-/// The value after a change, where its result has n dimensions.
+/// The value after a change, where its result has n dimensions: 1 for the resulting one, 2, 3.
 fn changed_to(c: &Call, n: u64, change: impl FnOnce(&mut Multivector)) -> Given<Answer> {
     dims(n)?;
     count(&c.a, c.words[0])?;
@@ -124,7 +134,8 @@ fn changed_to(c: &Call, n: u64, change: impl FnOnce(&mut Multivector)) -> Given<
     Ok(value(m))
 }
 
-/// Changes of shapes.
+/// Changes of shapes. Vanilla of 9 to Projective is 1, with a wrong count too; `conform_to` "does this to the left side only", so of the right
+/// only the shape is given (audit, b4 and d).
 fn changed(c: &Call) -> Given<Answer> {
     let w = &c.words;
     dims(if [SET_DIMS, SET_FLAVOR, CONFORM_TO].contains(&c.op) { w[0] } else { 0 })?;
@@ -154,7 +165,8 @@ fn changed(c: &Call) -> Given<Answer> {
     }
 }
 
-/// Single blades and single grades.
+/// Single blades and single grades. "`get_blade` gives 0 for a mask outside"; "`set_blade` outside grows by one dimension and calls itself", as
+/// far as the mask's highest bit; 4: "the part of a value at a grade above its dimensions is asked for".
 fn of_blades(c: &Call) -> Given<Answer> {
     let w = &c.words;
     match c.op {
@@ -165,7 +177,6 @@ fn of_blades(c: &Call) -> Given<Answer> {
         }
         SET_BLADE => {
             dims(w[0])?;
-            unless(w[5] >= 512, 1)?;
             let grown = (64 - w[5].leading_zeros() as u64).max(w[0]);
             changed_to(c, grown, |m| m.set_blade(w[5] as usize, c.b[0]))
         }
@@ -179,7 +190,8 @@ fn of_blades(c: &Call) -> Given<Answer> {
     }
 }
 
-/// Values from few numbers.
+/// Values from few numbers. "`vector`: 0 to 9 numbers", and "of 10 refuses 1"; "`n_1_blades`: 2 to 9 numbers ..; fewer .. refuses 2 here";
+/// "`scalar` and `pseudoscalar` add a dimension under Projective".
 fn built(c: &Call) -> Given<Answer> {
     let w = &c.words;
     match c.op {
@@ -205,15 +217,18 @@ fn built(c: &Call) -> Given<Answer> {
         BLADES_LEFT | BLADES_RIGHT => {
             dims(w[0])?;
             let make = if c.op == BLADES_LEFT { Multivector::blades_left } else { Multivector::blades_right };
-            let m = run(|| make(w[0] as u8, c.a.clone(), flavor(&w[1..]))).map_err(|_| 2u64)?;
+            let made = run(|| make(w[0] as u8, c.a.clone(), flavor(&w[1..])));
+            let fits = document::packing(c.a.len(), w[0], c.op == BLADES_LEFT);
+            assert_eq!(fits.is_ok(), made.is_ok(), "the Rust packs just the counts that document 01 does not refuse");
+            fits?;
             room(c.room, 1 << w[0])?;
-            Ok(value(m))
+            Ok(value(made.expect("a packing fits")))
         }
         _ => some_numbers(c),
     }
 }
 
-/// Some numbers of a value.
+/// Some numbers of a value: all blades at d, half of them, or the vector at own dimensions.
 fn some_numbers(c: &Call) -> Given<Answer> {
     let w = &c.words;
     match c.op {
@@ -227,11 +242,12 @@ fn some_numbers(c: &Call) -> Given<Answer> {
     }
 }
 
-/// What comes out of a call: the Rust's answer, or a refusal with its number, zeros and nothing written.
+/// What comes out of a call: the Rust's answer, or a refusal, which "writes no lent number or byte and returns its number, zero for counts and
+/// values, .. and shape 0 Vanilla".
 pub fn answer(c: &Call) -> Answer {
     of_masks(c).unwrap_or_else(|number| {
         let zeros = match c.op {
-            GRADE_SIZE | WRITE_TO | GRADE | UNPACK_ALL..=UNPACK_VECTOR => 1,
+            GRADE_SIZE | ORDER_OF | WRITE_TO | GRADE | UNPACK_ALL..=UNPACK_VECTOR => 1,
             TRY_FROM_STR => 4,
             CONFORM => 10,
             GET_BLADE => 0,

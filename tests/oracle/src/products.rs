@@ -1,4 +1,4 @@
-//! The calls of the crate `product`: the refusals as the project's documents order them, and the Rust's own answers.
+//! The calls of the crate `product`: the refusals by document 01's sentences, and the Rust's own answers.
 use crate::line::{Answer, Call};
 use crate::rules::*;
 use uiua_parser::multivector::harness::{self as rust, Mode};
@@ -40,6 +40,7 @@ pub fn pairs(op: u64, d: u8, f: Flavor) -> u64 {
     rust::metrics(d, flavor, mode).iter().filter(|m| **m != 0.0).count() as u64
 }
 
+/// 1 for Vanilla of 9 that meets Projective on either side, scalar or not; 2 over both inputs; 3 (audit, d).
 fn done(c: &Call) -> Given<Answer> {
     let (a, b, n) = two_values(c)?;
     room(c.room, 1 << n)?;

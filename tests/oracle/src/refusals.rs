@@ -1,4 +1,5 @@
-//! The functions of the crate `masks` that refuse for other crates, and the dimensions that a flavor adds.
+//! The functions of the crate `masks` that refuse for other crates, and the dimensions that a flavor adds. The Rust has no such functions; each is
+//! document 01's table of refusals for some dimensions, counts and outputs, "the lowest number that applies".
 use crate::line::{Answer, Call};
 use crate::lists::{FLAVORS, around, dims as some_dims};
 use crate::numbers::Rng;

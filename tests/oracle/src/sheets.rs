@@ -1,4 +1,4 @@
-//! The calls of the crate `sheets`: when each is refused by document 01, and what it answers by a reader and a writer of our own.
+//! The calls of the crate `sheets`: when each is refused by document 01's sentences, and what it answers by a reader and a writer of our own.
 use crate::line::{NAN, SheetAnswer, SheetCall};
 use crate::rules::{Given, room, unless};
 use crate::sheet_reader::{self as ours, Shape, Sheet};
@@ -18,16 +18,34 @@ pub fn shape_words(s: &Shape) -> [u64; 5] {
     [s.dims, s.kind, s.p, s.n, s.z].map(u64::from)
 }
 
-/// The shapes that a record holds, shape 0 Vanilla past those that are given; of these so many are listed, but no more than are held.
-fn listed(c: &SheetCall) -> Vec<Shape> {
-    let given = c.first.chunks(5).map(|w| {
-        let [dims, kind, p, n, z] = [0, 1, 2, 3, 4].map(|i| w[i] as u8);
-        Shape { dims, kind, p, n, z }
-    });
-    let held = given.chain(std::iter::repeat(Shape::default())).take(HELD);
-    held.take(c.words[0].min(HELD as u64) as usize).collect()
+/// The shapes that a call is given: how many there are, each that is there, and no byte past the last five.
+pub struct Listed {
+    pub count: u64,
+    pub shapes: Vec<Shape>,
+    pub is_whole: bool,
 }
 
+impl Listed {
+    /// The shapes of a line: a record holds 64, shape 0 Vanilla past those that the line has, and any count may stand beside them.
+    fn in_line(c: &SheetCall) -> Listed {
+        let given = c.first.chunks(5).map(|w| {
+            let [dims, kind, p, n, z] = [0, 1, 2, 3, 4].map(|i| w[i] as u8);
+            Shape { dims, kind, p, n, z }
+        });
+        let held = given.chain(std::iter::repeat(Shape::default())).take(HELD);
+        let count = c.words[0];
+        Listed { count, shapes: held.take(count.min(HELD as u64) as usize).collect(), is_whole: true }
+    }
+    /// The sum of the 2^d. 1: "a given .. dimension is above 9", whichever shape has it. 2: "an input's count is not the one the call needs",
+    /// where a shape has "five bytes".
+    fn coefficients(&self) -> Given<u64> {
+        let sum = ours::coefficients(&self.shapes).ok_or(1u64)?;
+        unless(!self.is_whole, 2)?;
+        Ok(sum)
+    }
+}
+
+/// "A sheet read gives only 9 and 3, 9 first".
 fn read(c: &SheetCall) -> Given<SheetAnswer> {
     let bytes: Vec<u8> = c.first.iter().map(|b| *b as u8).collect();
     let sheet = ours::read(&bytes).map_err(|_| 9u64)?;
@@ -37,40 +55,51 @@ fn read(c: &SheetCall) -> Given<SheetAnswer> {
     Ok(SheetAnswer { words: counts.into_iter().chain(held.flat_map(shape_words)).collect(), out: sheet.patterns })
 }
 
-fn write(c: &SheetCall) -> Given<SheetAnswer> {
-    let shapes = listed(c);
-    let coefficients = ours::coefficients(&shapes).ok_or(1u64)?;
-    unless(c.words[0] > 64 || c.second.len() > 4096 || c.second.len() as u64 != coefficients, 2)?;
-    let bytes = ours::write(&Sheet { shapes, patterns: c.second.clone() });
+/// 2: "A writer over either limit refuses 2", and "the second count is the sum of the 2^d".
+fn write(c: &SheetCall, listed: Listed) -> Given<SheetAnswer> {
+    let coefficients = listed.coefficients()?;
+    unless(listed.count > 64 || c.second.len() > 4096 || c.second.len() as u64 != coefficients, 2)?;
+    let bytes = ours::write(&Sheet { shapes: listed.shapes, patterns: c.second.clone() });
     room(c.room, bytes.len())?;
     Ok(SheetAnswer { words: vec![0, bytes.len() as u64], out: bytes.into_iter().map(u64::from).collect() })
 }
 
-fn value_at(c: &SheetCall) -> Given<SheetAnswer> {
-    let shapes = listed(c);
-    ours::coefficients(&shapes).ok_or(1u64)?;
-    unless(c.words[1] >= shapes.len() as u64, 2)?;
-    let (before, from) = shapes.split_at(c.words[1] as usize);
-    let start = ours::coefficients(before).ok_or(1u64)?;
+/// 2: there are not so many shapes, or a sheet has not, "at most 64".
+fn value_at(listed: Listed, index: u64) -> Given<SheetAnswer> {
+    listed.coefficients()?;
+    unless(index >= listed.count.min(64), 2)?;
+    let (before, from) = listed.shapes.split_at(index as usize);
+    let start = ours::coefficients(before).expect("no dimension is above 9");
     Ok(SheetAnswer { words: [&[0][..], &shape_words(&from[0]), &[start]].concat(), out: vec![] })
 }
 
-/// Patterns to numbers or numbers to patterns: any NaN is one.
+/// Patterns to numbers or numbers to patterns: any NaN is one. 3: "the output is shorter than the result".
 fn turned(c: &SheetCall) -> Given<SheetAnswer> {
     room(c.room, c.first.len())?;
     let one = |x: &u64| if f64::from_bits(*x).is_nan() { NAN } else { f64::from_bits(*x).to_bits() };
     Ok(SheetAnswer { words: vec![0, c.first.len() as u64], out: c.first.iter().map(one).collect() })
 }
 
-/// What comes out of a call. A refusal has its number and zeros, and writes nothing.
-pub fn answer(c: &SheetCall) -> SheetAnswer {
-    let (given, zeros) = match c.op {
-        READ => (read(c), 2 + 5 * HELD),
-        WRITE => (write(c), 1),
-        VALUE_AT => (value_at(c), 6),
-        _ => (turned(c), 1),
-    };
+/// "A refusal writes no lent number or byte and returns its number, zero for counts and values .. and shape 0 Vanilla."
+fn or_refused(given: Given<SheetAnswer>, zeros: usize) -> SheetAnswer {
     given.unwrap_or_else(|number| SheetAnswer { words: [vec![number], vec![0; zeros]].concat(), out: vec![] })
+}
+
+/// What comes out of a call on these shapes; the last word is the index.
+pub fn of_shapes(c: &SheetCall, listed: Listed) -> SheetAnswer {
+    match c.op {
+        WRITE => or_refused(write(c, listed), 1),
+        _ => or_refused(value_at(listed, c.words[c.words.len() - 1]), 6),
+    }
+}
+
+/// What comes out of a call that has a line.
+pub fn answer(c: &SheetCall) -> SheetAnswer {
+    match c.op {
+        READ => or_refused(read(c), 2 + 5 * HELD),
+        WRITE | VALUE_AT => of_shapes(c, Listed::in_line(c)),
+        _ => or_refused(turned(c), 1),
+    }
 }
 
 /// The answer with one thing wrong: a bit of the last that is written (where a NaN is a number it becomes a zero), the last not written,

@@ -84,7 +84,7 @@ fn written(each: &mut impl FnMut(Call)) {
 }
 
 /// Every change of dimensions and of flavor, every unpacking, every grade and every mask of few dimensions.
-fn changed(r: &mut Rng, each: &mut impl FnMut(Call)) {
+pub fn changed(r: &mut Rng, each: &mut impl FnMut(Call)) {
     for (d, f) in (0..=9u64).flat_map(|d| FLAVORS[..3].iter().map(move |f| (d, f))) {
         let own = [&[d][..], f].concat();
         let value = |r: &mut Rng, op, more: &[u64], room| {
@@ -119,7 +119,7 @@ fn changed(r: &mut Rng, each: &mut impl FnMut(Call)) {
 }
 
 /// Every packing of every count of numbers, and every vector.
-fn packed(r: &mut Rng, each: &mut impl FnMut(Call)) {
+pub fn packed(r: &mut Rng, each: &mut impl FnMut(Call)) {
     for (op, d) in [BLADES_LEFT, BLADES_RIGHT].into_iter().flat_map(|op| (0..=9u64).map(move |d| (op, d))) {
         for n in 0..=(1usize << d) + 2 {
             for f in &FLAVORS[..3] {

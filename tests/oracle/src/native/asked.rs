@@ -1,5 +1,5 @@
 //! A call as the exports take it.
-use super::known::{Part, known, placed};
+use super::known::{Part, known, moves, placed};
 use super::memory::Memory;
 use crate::line::{Call, SheetCall};
 use crate::masks::{N_1_BLADES, VECTOR};
@@ -46,7 +46,8 @@ impl Asked {
             Asked::Values(c) => (c.room, c.room_right),
             Asked::Sheet(c) => (c.room, 0),
         };
-        Memory::marked(known(self.op()).lends, room, right, mark)
+        let memory = Memory::marked(known(self.op()).lends, room, right, mark);
+        Memory { has_nan_bits: moves(self.op()), ..memory }
     }
     /// The most dimensions that the call names, where it names any.
     pub fn dims(&self) -> Option<u64> {

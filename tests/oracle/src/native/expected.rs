@@ -6,8 +6,9 @@ use super::memory::Memory;
 use super::named;
 use crate::line::{Answer, Call, SheetAnswer, SheetCall};
 use crate::masks::{METRIC, ORDER_OF};
-use crate::rules::flavor;
-use crate::sheets::{self, READ, VALUE_AT, WRITE};
+use crate::rules::{dims, flavor, room};
+use crate::sheet_reader::Shape;
+use crate::sheets::{self, Listed, READ, VALUE_AT, WRITE};
 use uiua_parser::mask_tables;
 use uiua_parser::multivector::harness as rust;
 
@@ -27,19 +28,20 @@ pub fn expected(asked: &Asked, mark: u8) -> Memory {
     m
 }
 
-/// The masks and the places of a dimension, those of none where it is above 9; 3 where either output is shorter.
+/// The masks and the places of a dimension. 1: "a given .. dimension is above 9". 3: "the output is shorter than the result", either of them.
 fn order(c: &Call, m: &mut Memory) {
-    let (masks, places) = mask_tables(if c.words[0] > 9 { 0 } else { c.words[0] as u8 });
-    if c.room.min(c.room_right) < masks.len() {
-        m.returned = 3;
+    let refused = dims(c.words[0]).and_then(|()| room(c.room.min(c.room_right), 1 << c.words[0]));
+    if let Err(number) = refused {
+        m.returned = number as i64;
         return;
     }
+    let (masks, places) = mask_tables(c.words[0] as u8);
     m.counts.put([masks.len()].into_iter());
     m.masks.put(masks.iter().map(|x| *x as u16));
     m.places.put(places.iter().map(|x| *x as u16));
 }
 
-/// A refusal leaves everything as it was.
+/// "A refusal writes no lent number or byte": it leaves everything as it was.
 fn value(c: &Call, a: Answer, m: &mut Memory) {
     let lends = known(c.op).lends;
     let bytes = |words: &[u64]| words.iter().map(|w| *w as u8).collect::<Vec<_>>().into_iter();
@@ -100,35 +102,21 @@ fn start(c: &Call) -> usize {
     m.grades().take(c.words[5] as usize).map(|grade| grade.len()).sum()
 }
 
-/// The shapes that bytes say, five each: kind 2 for any above 1, and p, n, z zero unless it is 2.
-fn in_words(bytes: &[u64]) -> Vec<u64> {
-    bytes
-        .chunks_exact(5)
-        .take(64)
-        .flat_map(|s| match s[1] {
-            0 | 1 => [s[0], s[1], 0, 0, 0],
-            _ => [s[0], 2, s[2], s[3], s[4]],
-        })
-        .collect()
+/// The shapes that bytes say, five each, all of them: kind 2 for any above 1, and p, n, z zero unless it is 2.
+fn listed(bytes: &[u64]) -> Listed {
+    let shape = |s: &[u64]| {
+        let [dims, kind, p, n, z] = [s[0] as u8, s[1].min(2) as u8, s[2] as u8, s[3] as u8, s[4] as u8];
+        if kind == 2 { Shape { dims, kind, p, n, z } } else { Shape { dims, kind, ..Shape::default() } }
+    };
+    let shapes: Vec<Shape> = bytes.chunks_exact(5).map(shape).collect();
+    Listed { count: shapes.len() as u64, shapes, is_whole: bytes.len().is_multiple_of(5) }
 }
 
-/// A sheet call in the lines' form: the count of its shapes is a word.
-fn lined(c: &SheetCall) -> SheetCall {
-    let mut c = c.clone();
-    if [WRITE, VALUE_AT].contains(&c.op) {
-        c.words.insert(0, c.first.len() as u64 / 5);
-        c.first = in_words(&c.first);
-    }
-    c
-}
-
-/// Bytes past the last whole shape refuse 2, and 1 comes first where a shape that is held has too many dimensions.
 fn sheet(c: &SheetCall, m: &mut Memory) {
-    if [WRITE, VALUE_AT].contains(&c.op) && !c.first.len().is_multiple_of(5) {
-        m.returned = if in_words(&c.first).iter().step_by(5).any(|dims| *dims > 9) { 1 } else { 2 };
-        return;
-    }
-    let SheetAnswer { words, out } = sheets::answer(&lined(c));
+    let SheetAnswer { words, out } = match c.op {
+        WRITE | VALUE_AT => sheets::of_shapes(c, listed(&c.first)),
+        _ => sheets::answer(c),
+    };
     m.returned = words[0] as i64;
     if m.returned != 0 {
         return;

@@ -152,6 +152,41 @@ const CALLS: [Known; 67] = [
     call("grade_refusal", GRADE, Lends::Nothing),
 ];
 
+/// The calls that only move numbers or turn their signs: a NaN's payload is kept by each, and its sign too unless it is turned. So their answers
+/// are compared with the bits of NaNs; those of arithmetic, where machines differ, without.
+const MOVES: [&str; 25] = [
+    "set_dims",
+    "set_flavor",
+    "conform_to",
+    "conform",
+    "get_blade",
+    "set_blade",
+    "grade",
+    "vector",
+    "n_1_blades",
+    "scalar",
+    "pseudoscalar",
+    "blades_left",
+    "blades_right",
+    "unpack_all",
+    "unpack_even",
+    "unpack_odd",
+    "unpack_own_even",
+    "unpack_own_odd",
+    "unpack_vector",
+    "scalar_test",
+    "neg",
+    "reverse",
+    "inv_reverse",
+    "take_scalar",
+    "make_scalar_only",
+];
+
+/// The call only moves numbers or turns their signs.
+pub fn moves(op: u64) -> bool {
+    MOVES.contains(&known(op).name)
+}
+
 /// How many calls there are.
 pub const MANY: usize = CALLS.len();
 

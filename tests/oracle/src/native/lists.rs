@@ -4,7 +4,7 @@ use super::expected::expected;
 use super::known::{MANY, known};
 use super::memory::MARKS;
 use super::table::can_be_done_from;
-use super::{more_lists, named};
+use super::{more_lists, named, nan_lists};
 use crate::numbers::Rng;
 use crate::{
     arithmetic, arithmetic_lists, arithmetic_refused, corners, lists, masks, product_lists, product_whole, products,
@@ -32,10 +32,10 @@ pub fn compared(count: u64, seed: u64, to: &mut impl FnMut(Asked)) {
     }
     let each = &mut |c| to(Asked::Values(c));
     product_lists::demanded(count, seed, &mut |_, c| each(c));
-    let each = &mut |c| to(Asked::sheet(c));
-    sheet_lists::exhaustive(each);
-    sheet_damage::many(count, seed, each);
-    more_lists::shapes(&mut r, &mut |c| to(Asked::Sheet(c)));
+    nan_lists::moved(&mut r, count, to);
+    sheet_lists::exhaustive(&mut |c| to(Asked::sheet(c)));
+    sheet_damage::many(count, seed, &mut |c| to(more_lists::lengthened(&mut r, Asked::sheet(c))));
+    more_lists::shapes(&mut |c| to(Asked::Sheet(c)));
 }
 
 /// For every call and every number of dimensions that it can have, three calls that are done.
@@ -56,7 +56,10 @@ pub fn drawn(r: &mut Rng, op: u64) -> Asked {
         _ if arithmetic::ALL.contains(&op) => Asked::Values(arithmetic_lists::random(r, op, 9)),
         _ if refusals::ALL.contains(&op) => Asked::Values(refusals::random(r, op)),
         _ if named::ALL.contains(&op) => Asked::Values(named::random(r, op)),
-        _ if sheets::ALL.contains(&op) => Asked::sheet(sheet_damage::random(r, op, 64)),
+        _ if sheets::ALL.contains(&op) => {
+            let asked = Asked::sheet(sheet_damage::random(r, op, 64));
+            more_lists::lengthened(r, asked)
+        }
         masks::NULL_FLAVOR | masks::PROMOTION | masks::SHAPE_OF => Asked::Values(more_lists::flavored(r, op)),
         _ => Asked::Values(lists::random(r, op, 9)),
     }

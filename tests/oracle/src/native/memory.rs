@@ -20,8 +20,9 @@ pub trait Cell: Copy {
     const IS_NUMBER: bool = false;
     fn of(bits: u64) -> Self;
     fn bits(self) -> u64;
-    fn same(self, other: Self) -> bool {
-        self.bits() == other.bits()
+    /// The number is a NaN.
+    fn is_nan(self) -> bool {
+        false
     }
     fn text(self) -> String;
 }
@@ -45,7 +46,6 @@ macro_rules! whole {
 // A pattern is printed in hexadecimal.
 whole!(u8 as u8: "{}", i8 as u8: "{}", u16 as u16: "{}", u32 as u32: "{}", u64 as u64: "{:016x}", usize as usize: "{}");
 
-/// A NaN is the same as any other, whatever its payload and sign; every other number is its bits.
 impl Cell for f64 {
     const TOP: u64 = 1 << 63;
     const IS_NUMBER: bool = true;
@@ -55,8 +55,8 @@ impl Cell for f64 {
     fn bits(self) -> u64 {
         self.to_bits()
     }
-    fn same(self, other: Self) -> bool {
-        self.to_bits() == other.to_bits() || self.is_nan() && other.is_nan()
+    fn is_nan(self) -> bool {
+        f64::is_nan(self)
     }
     /// With its bits; +0 has none.
     fn text(self) -> String {
@@ -102,8 +102,10 @@ impl<T: Cell> Lent<T> {
     pub fn holds(&self, list: &Lent<T>) -> bool {
         self.cells.iter().map(|x| x.bits()).eq(list.cells.iter().map(|x| x.bits()))
     }
-    pub fn same(&self, other: &Lent<T>) -> bool {
-        self.cells.len() == other.cells.len() && self.cells.iter().zip(&other.cells).all(|(x, y)| x.same(*y))
+    /// Every cell has the same bits; or both are NaNs, where the bits of NaNs are not compared.
+    pub fn same(&self, other: &Lent<T>, nan_bits: bool) -> bool {
+        let same = |(x, y): (&T, &T)| x.bits() == y.bits() || !nan_bits && x.is_nan() && y.is_nan();
+        self.cells.len() == other.cells.len() && self.cells.iter().zip(&other.cells).all(same)
     }
 }
 
@@ -147,6 +149,8 @@ impl<T: Cell> Cells for Lent<T> {
 pub struct Memory {
     pub returned: i64,
     pub kept: bool,
+    /// A NaN is compared by its bits; without, it is the same as any other.
+    pub has_nan_bits: bool,
     /// References to shapes, a flavor, yes or no, or a test.
     pub bytes: Lent<u8>,
     pub counts: Lent<usize>,
@@ -170,6 +174,7 @@ impl Memory {
         Memory {
             returned: 0,
             kept: true,
+            has_nan_bits: true,
             bytes: lent(bytes, mark),
             counts: lent(counts, mark),
             pairs: lent(pairs, mark),
@@ -185,17 +190,17 @@ impl Memory {
     }
     pub fn same(&self, other: &Memory) -> bool {
         (self.returned, self.kept) == (other.returned, other.kept)
-            && self.bytes.same(&other.bytes)
-            && self.counts.same(&other.counts)
-            && self.pairs.same(&other.pairs)
-            && self.order.same(&other.order)
-            && self.values.same(&other.values)
-            && self.out.same(&other.out)
-            && self.right.same(&other.right)
-            && self.masks.same(&other.masks)
-            && self.places.same(&other.places)
-            && self.text.same(&other.text)
-            && self.patterns.same(&other.patterns)
+            && self.bytes.same(&other.bytes, true)
+            && self.counts.same(&other.counts, true)
+            && self.pairs.same(&other.pairs, true)
+            && self.order.same(&other.order, true)
+            && self.values.same(&other.values, self.has_nan_bits)
+            && self.out.same(&other.out, self.has_nan_bits)
+            && self.right.same(&other.right, self.has_nan_bits)
+            && self.masks.same(&other.masks, true)
+            && self.places.same(&other.places, true)
+            && self.text.same(&other.text, true)
+            && self.patterns.same(&other.patterns, true)
     }
     /// The call returns the number of a refusal.
     pub fn is_refused(&self, lends: Lends) -> bool {

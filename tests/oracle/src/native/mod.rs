@@ -8,6 +8,7 @@ mod memory;
 mod more_lists;
 mod moves;
 mod named;
+mod nan_lists;
 mod plain;
 mod planted;
 mod print;

@@ -53,44 +53,63 @@ pub fn flavored(r: &mut Rng, op: u64) -> Call {
     Call { op, words, ..Call::default() }
 }
 
-/// The order of every dimension, with no room, one too little, just enough and one to spare on either side.
+/// The order of every dimension, with no room, one too little, just enough and one to spare on either side; above 9 with outputs that are short
+/// and long by any measure.
 pub fn orders(each: &mut impl FnMut(Call)) {
     for d in (0..=10u64).chain([11, 64, 255]) {
-        let n = if d > 9 { 1usize } else { 1 << d };
-        for (room, room_right) in [0, n - 1, n, n + 1].into_iter().flat_map(|x| [0, n - 1, n, n + 1].map(|y| (x, y))) {
+        let n = 1usize << d.min(9);
+        let rooms = if d > 9 { [0, 1, 512, 1024] } else { [0, n - 1, n, n + 1] };
+        for (room, room_right) in rooms.into_iter().flat_map(|x| rooms.map(|y| (x, y))) {
             each(Call { op: ORDER_OF, words: vec![d], room, room_right, ..Call::default() });
         }
     }
 }
 
-/// Shapes as bytes are written, with the patterns and the room that they ask for, with no room and with a pattern more; and the value at some
-/// index.
-fn of_shapes(r: &mut Rng, first: Vec<u64>, each: &mut impl FnMut(SheetCall)) {
-    let listed = first.chunks_exact(5).take(64).map(|s| 1usize << s[0].min(9));
-    let n = listed.sum::<usize>().min(4200);
+/// Shapes as bytes are written, with the patterns and the room that they ask for, with no room and with a pattern more; and the value at the
+/// first indices, the last and one past, and about the 64th.
+fn of_shapes(first: Vec<u64>, each: &mut impl FnMut(SheetCall)) {
+    let n = first.chunks_exact(5).map(|s| 1usize << s[0].min(9)).sum::<usize>().min(4200);
     for (patterns, room) in [(n, 6 + first.len() + 8 * n), (n, 0), (n + 1, 40_000)] {
         let second = PATTERNS.iter().copied().cycle().take(patterns).collect();
         each(SheetCall { op: WRITE, words: vec![], first: first.clone(), second, room });
     }
-    let index = r.pick(&[0, first.len() as u64 / 5, first.len() as u64 / 10, 63, 64]);
-    each(SheetCall { op: VALUE_AT, words: vec![index], first, ..SheetCall::default() });
+    let count = first.len() as u64 / 5;
+    for index in [0, 1, count / 2, count.saturating_sub(1), count, 62, 63, 64, 65, u64::MAX] {
+        each(SheetCall { op: VALUE_AT, words: vec![index], first: first.clone(), ..SheetCall::default() });
+    }
 }
 
-/// Every count of bytes up to six shapes and one; about 64 shapes, one of them with other dimensions, and up to four bytes more.
-pub fn shapes(r: &mut Rng, each: &mut impl FnMut(SheetCall)) {
+/// Every count of bytes up to six shapes and one; about 64 shapes and many more, one of them with other dimensions wherever it stands, and up to
+/// four bytes more, which say no dimension.
+pub fn shapes(each: &mut impl FnMut(SheetCall)) {
     for (n, dims) in (0..=31).flat_map(|n| [0, 1, 2, 9, 10, 255].map(|dims| (n, dims))) {
-        of_shapes(r, (0..n).map(|i| if i % 5 == 0 { dims } else { i }).collect(), each);
+        of_shapes((0..n).map(|i| if i % 5 == 0 { dims } else { i }).collect(), each);
     }
-    for (n, place) in (63..=66).flat_map(|n| [0, 62, 63, 64, 65].map(|place| (n, place))) {
-        for (dims, more) in [0, 9, 10].into_iter().flat_map(|dims| (0..=4).map(move |more| (dims, more))) {
+    for (n, place) in [63, 64, 65, 66, 130].into_iter().flat_map(|n| [0, 62, 63, 64, 65, n - 1].map(|place| (n, place)))
+    {
+        for (dims, more) in [0, 9, 10, 255].into_iter().flat_map(|dims| (0..=4).map(move |more| (dims, more))) {
             let mut first = [0, 7, 1, 2, 3].repeat(n);
             if let Some(x) = first.get_mut(5 * place) {
                 *x = dims
             }
-            first.extend(&[9, 9, 9, 9][..more]);
-            of_shapes(r, first, each);
+            first.extend(&[10, 9, 9, 9][..more]);
+            of_shapes(first, each);
         }
     }
+}
+
+/// Now and then a list of shapes has more than 64 of them, one with other dimensions, and some bytes past the last.
+pub fn lengthened(r: &mut Rng, mut asked: Asked) -> Asked {
+    if let Asked::Sheet(c) = &mut asked
+        && [WRITE, VALUE_AT].contains(&c.op)
+        && r.below(6) == 0
+    {
+        c.first.resize(5 * (65 + r.below(6)), 0);
+        let place = r.below(c.first.len() / 5);
+        c.first[5 * place] = r.pick(&[0, 1, 9, 10, 255]);
+        c.first.extend(&[10, 0, 0, 0][..r.pick(&[0, 0, 0, 1, 4])]);
+    }
+    asked
 }
 
 /// The special values; powers of two with either sign: the least, those whose squares are about the least and the largest, at the snap's edge,

@@ -18,7 +18,7 @@ fn shape(d: u64, f: &[u64]) -> Vec<u64> {
     [&[d][..], &flavor_words(flavor(f))].concat()
 }
 
-/// 1, 2, then 4: a grade above the dimensions.
+/// 1, 2, then 4: "the part of a value at a grade above its dimensions is asked for".
 fn grade_refusal(c: &Call) -> Given<()> {
     dims(c.words[0])?;
     count(&c.a, c.words[0])?;

@@ -125,7 +125,7 @@ fn cell(cells: &dyn Cells, i: usize, mark: u8) -> String {
 
 /// Both answers: all that is returned and lent, as far as it is little, and every cell that differs.
 pub fn both(asked: &Asked, Difference { mut wanted, mut given, mark }: Difference) {
-    let lends = known(asked.op()).lends;
+    let (lends, has_nan_bits) = (known(asked.op()).lends, wanted.has_nan_bits);
     line("returned", wanted.returned.to_string(), given.returned.to_string());
     if !given.kept {
         println!("      what went in was changed");
@@ -133,7 +133,7 @@ pub fn both(asked: &Asked, Difference { mut wanted, mut given, mark }: Differenc
     for (which, (right, other)) in wanted.lists().into_iter().zip(given.lists()).enumerate() {
         for i in 0..right.len() {
             let is_shown = (AROUND..AROUND + right.room().min(FEW)).contains(&i);
-            if is_shown || !same(right, other, i) {
+            if is_shown || !same(right, other, i, has_nan_bits) {
                 line(&cell_name(lends, which, right.room(), i), cell(right, i, mark), cell(other, i, mark));
             }
         }
@@ -148,7 +148,7 @@ fn line(name: &str, right: String, given: String) {
     }
 }
 
-fn same(x: &dyn Cells, y: &dyn Cells, i: usize) -> bool {
-    let nan = |c: &dyn Cells| c.is_number() && f64::from_bits(c.bits(i)).is_nan();
-    x.bits(i) == y.bits(i) || nan(x) && nan(y)
+fn same(x: &dyn Cells, y: &dyn Cells, i: usize, has_nan_bits: bool) -> bool {
+    let is_any_nan = |c: &dyn Cells| !has_nan_bits && c.is_number() && f64::from_bits(c.bits(i)).is_nan();
+    x.bits(i) == y.bits(i) || is_any_nan(x) && is_any_nan(y)
 }

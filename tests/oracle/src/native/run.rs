@@ -47,12 +47,24 @@ pub struct Comparison<'a> {
     good: u64,
     malformed: u64,
     first: Option<(u64, Asked)>,
+    /// How many differ, of each call.
+    differ: [u64; MANY],
 }
 
 impl<'a> Comparison<'a> {
     pub fn new(port: Port<'a>, seed: u64) -> Self {
         let (made, agree, good, malformed) = (0, 0, 0, 0);
-        Comparison { port, spelling: Rng(seed), made, agree, table: Table::new(), good, malformed, first: None }
+        Comparison {
+            port,
+            spelling: Rng(seed),
+            made,
+            agree,
+            table: Table::new(),
+            good,
+            malformed,
+            first: None,
+            differ: [0; MANY],
+        }
     }
     /// Compares one call, its flavors spelled in this way or that, with either mark in turn.
     pub fn call(&mut self, asked: Asked) {
@@ -60,18 +72,17 @@ impl<'a> Comparison<'a> {
         self.made += 1;
         let mark = MARKS[(self.made % 2) as usize];
         let Some(wanted) = wanted(&asked, mark) else {
-            self.first.get_or_insert((self.made, asked));
-            return;
+            return self.differs(asked);
         };
         if asked.op() == READ {
             *(if wanted.returned == 9 { &mut self.malformed } else { &mut self.good }) += 1
         }
         self.table.count(&asked, wanted.is_refused(known(asked.op()).lends));
-        if wanted.same(&(self.port)(&asked, mark)) {
-            self.agree += 1
-        } else {
-            self.first.get_or_insert((self.made, asked));
-        }
+        if wanted.same(&(self.port)(&asked, mark)) { self.agree += 1 } else { self.differs(asked) }
+    }
+    fn differs(&mut self, asked: Asked) {
+        self.differ[asked.op() as usize - 1] += 1;
+        self.first.get_or_insert((self.made, asked));
     }
     pub fn agreeing(&self) -> u64 {
         self.agree
@@ -89,6 +100,8 @@ impl<'a> Comparison<'a> {
         );
         if let Some((number, asked)) = &self.first {
             show(self.port, *number, asked, seed);
+            let some = (1..).zip(self.differ).filter(|(_, n)| *n > 0).map(|(op, n)| format!("{} {n}", known(op).name));
+            println!("  that differ, of each call: {}", some.collect::<Vec<_>>().join(", "));
         }
         self.table.print();
         let missing = self.table.missing();
@@ -116,7 +129,7 @@ fn show(port: Port, number: u64, asked: &Asked, seed: u64) {
             print::call(&small);
             print::both(&small, difference);
         }
-        None => println!("  the Rust panics, though nothing refuses this call"),
+        None => println!("  the Rust panics, or refuses otherwise than document 01"),
     }
 }
 

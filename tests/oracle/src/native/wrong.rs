@@ -2,10 +2,11 @@
 use super::asked::Asked;
 use super::expected::expected;
 use super::exports::actual;
-use super::known::{MANY, known};
+use super::known::{MANY, known, moves};
 use super::memory::{AROUND, LISTS, MARKS, Memory, REFERENCES};
 use super::more_lists::orders;
 use super::named::{self, DONE, REFUSED};
+use super::nan_lists;
 use crate::line::{Call, SheetCall};
 use crate::numbers::Rng;
 use crate::stored::{Takes, stored};
@@ -15,7 +16,7 @@ type Kind = (&'static str, fn(u64) -> bool);
 
 /// It can be of all calls, of those to which anything is lent, references or outputs, or of those that can be refused and have something to
 /// leave alone.
-const KINDS: [Kind; 10] = [
+const KINDS: [Kind; 11] = [
     ("another number returned", |_| true),
     ("what goes in changed", |_| true),
     ("a reference told otherwise, by one bit", |op| has_lent(op, 0..REFERENCES)),
@@ -26,6 +27,7 @@ const KINDS: [Kind; 10] = [
     ("a number written past the result", |op| has_lent(op, REFERENCES..LISTS.len())),
     ("a number written before what is lent or past its end", |op| has_lent(op, 0..LISTS.len())),
     ("a reference told or a number written by a refusal", |op| known(op).lends.returns_refusal() && op != DONE),
+    ("a NaN that is only moved, with another payload or sign", |op| moves(op) && has_numbers(op)),
 ];
 
 /// Some of these lists are lent to the call.
@@ -33,11 +35,16 @@ fn has_lent(op: u64, lists: std::ops::Range<usize>) -> bool {
     Memory::marked(known(op).lends, 1, 1, MARKS[0]).lists()[lists].iter().any(|cells| cells.len() > 0)
 }
 
+/// Numbers are lent to the call: references, or outputs.
+fn has_numbers(op: u64) -> bool {
+    Memory::marked(known(op).lends, 1, 1, MARKS[0]).lists().iter().any(|cells| cells.len() > 0 && cells.is_number())
+}
+
 /// For each kind and each call, how many wrong answers there were, and how many were told apart.
 struct Tally {
     all: [[u64; MANY]; KINDS.len()],
     apart: [[u64; MANY]; KINDS.len()],
-    /// Answers in which a NaN is another, and those of them that agree.
+    /// Answers of arithmetic in which a NaN is another, and those of them that agree.
     nans: u64,
     same_nans: u64,
     honest: u64,
@@ -103,10 +110,14 @@ impl Tally {
             right.given.lists()[which].set(i, wrong);
             self.count(kind, right);
         }
-        if nan {
-            right.given.lists()[which].set(i, bits ^ (1 << 63 | 4));
-            self.nans += 1;
-            self.same_nans += right.wanted.same(&right.given) as u64;
+        for other in [1 << 63, 4, 1 << 50, 1 << 63 | 4].map(|change| bits ^ change).into_iter().filter(|_| nan) {
+            right.given.lists()[which].set(i, other);
+            if moves(right.op) {
+                self.count(10, right);
+            } else {
+                self.nans += 1;
+                self.same_nans += right.wanted.same(&right.given) as u64;
+            }
         }
         right.given.lists()[which].set(i, bits);
     }
@@ -132,7 +143,7 @@ impl Tally {
         line(apart_of_all == all_of_all, format!("{apart_of_all} of {all_of_all} wrong answers told apart"));
         line(
             self.nans == self.same_nans && self.nans > 0,
-            format!("{} of {} answers with another NaN agree", self.same_nans, self.nans),
+            format!("{} of {} answers of arithmetic with another NaN agree", self.same_nans, self.nans),
         );
     }
 }
@@ -158,5 +169,6 @@ pub fn check(seed: u64) {
     }
     Takes::call(&mut tally, Call { op: REFUSED, words: vec![0], ..Call::default() });
     orders(&mut |c| Takes::call(&mut tally, c));
+    nan_lists::few(&mut r, &mut |asked| tally.call(&asked, MARKS[0]));
     tally.says();
 }
