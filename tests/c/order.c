@@ -35,11 +35,11 @@ static void orders(void) {
     CALL(0, order_of, 4, told.masks, ROOM, told.places, ROOM, &told.count);
     want_order(LENT(none));
     CALL(0, order_of, 0, told.masks, 1, told.places, 1, &told.count);
-    want_order(LENT(none));
-    CALL(0, order_of, 10, told.masks, ROOM, told.places, ROOM, &told.count);
+    CALL(1, order_of, 10, told.masks, ROOM, told.places, ROOM, &told.count);
+    CALL(1, order_of, 10, told.masks, 0, told.places, 1, &told.count); /* 1 and 3: the lowest */
+    CALL(1, order_of, 255, told.masks, ROOM, told.places, ROOM, &told.count);
     CALL(3, order_of, 3, told.masks, 7, told.places, 8, &told.count);
     CALL(3, order_of, 3, told.masks, 8, told.places, 7, &told.count);
-    CALL(3, order_of, 10, told.masks, 0, told.places, 1, &told.count);
 }
 
 void order(void) {

@@ -73,10 +73,23 @@ static void sheets_refused(void) {
     CALL(2, write, LENT(two_shapes), three_patterns, 2, told.bytes, 0, &told.count);
     CALL(2, write, LENT(shapes), patterns, 65, told.bytes, 0, &told.count);
     CALL(3, write, LENT(two_shapes), LENT(three_patterns), told.bytes, 39, &told.count);
-    shapes[64 * 5] = 10; /* the shape past the 64 that are looked at */
-    CALL(2, write, LENT(shapes), patterns, 64, told.bytes, 0, &told.count);
+    shapes[64 * 5] = 10; /* 1 and 2: every shape is looked at, past the 64 that a sheet can have too */
+    CALL(1, write, LENT(shapes), patterns, 64, told.bytes, 0, &told.count);
     for (size_t i = 0; i < 9; i++) shapes[i * 5] = 9;
     CALL(2, write, shapes, 9 * 5, LENT(patterns), told.bytes, 0, &told.count);
+}
+
+/* Of 65 shapes the first 64 have values; a dimension above 9 refuses all, wherever it stands. */
+static void values_of_many(void) {
+    static uint8_t shapes[65 * 5 + 1];
+    want_shape(0, VGA);
+    want.start = 63;
+    CALL(0, value_at, shapes, 65 * 5, 63, TO_SHAPE, &told.start);
+    CALL(2, value_at, shapes, 65 * 5, 64, TO_SHAPE, &told.start);
+    CALL(2, value_at, shapes, 65 * 5 + 1, 0, TO_SHAPE, &told.start);
+    shapes[64 * 5] = 10;
+    for (size_t i = 0; i <= 65; i++) CALL(1, value_at, shapes, 65 * 5, i, TO_SHAPE, &told.start);
+    CALL(1, value_at, shapes, 65 * 5 + 1, 0, TO_SHAPE, &told.start);
 }
 
 static void values_of_a_sheet(void) {
@@ -110,5 +123,6 @@ void sheet(void) {
     sheets_written();
     sheets_refused();
     values_of_a_sheet();
+    values_of_many();
     patterns_and_numbers();
 }

@@ -8,10 +8,10 @@ use super::plain::Plain;
 use super::run::{Comparison, difference};
 use super::shrink::shrunk;
 use crate::arithmetic::{MUL, NEG, POWI};
-use crate::masks::{CONFORM, SET_DIMS, TRY_FROM_STR, UNPACK_VECTOR};
+use crate::masks::{CONFORM, GET_BLADE, SET_DIMS, TRY_FROM_STR, UNPACK_VECTOR};
 use crate::numbers::Rng;
 use crate::products::GENERAL_PRODUCT;
-use crate::sheets::READ;
+use crate::sheets::{READ, VALUE_AT};
 
 /// A fault of one call: when it shows, what is then wrong, and what the smallest call is like.
 struct Planted {
@@ -43,7 +43,24 @@ fn is_nan(bits: u64) -> bool {
 const ZERO: u64 = 0;
 const ONE: u64 = 1f64.to_bits();
 
-const FAULTS: [Planted; 9] = [
+/// Changes the NaN at the first place of a list, where there is one.
+fn change_nan(yes: bool, cells: &mut dyn Cells, change: fn(u64) -> u64) {
+    if yes && cells.room() > 0 && is_nan(cells.bits(AROUND)) {
+        cells.set(AROUND, change(cells.bits(AROUND)))
+    }
+}
+
+const SIGN: u64 = 1 << 63;
+const QUIET: u64 = 1 << 51;
+
+/// Of the first 64 shapes none has more than nine dimensions, and of those past them one.
+fn only_later_is_large(c: &Plain) -> bool {
+    let is_large = |s: &[u64]| s[0] > 9;
+    let mut shapes = c.lists[0].chunks_exact(5);
+    !shapes.by_ref().take(64).any(is_large) && shapes.any(is_large)
+}
+
+const FAULTS: [Planted; 13] = [
     Planted {
         op: GENERAL_PRODUCT,
         when: "e1 is multiplied by e2",
@@ -94,6 +111,30 @@ const FAULTS: [Planted; 9] = [
         when: "a NaN goes in, which is then changed",
         spoil: |c, m| m.kept = !c.lists[0].iter().any(|x| is_nan(*x)),
         is_small: |c| c.words == [0; 5] && c.lists[0] == [f64::NAN.to_bits()] && c.rooms[0] == 0,
+    },
+    Planted {
+        op: SET_DIMS,
+        when: "a NaN is moved, which then has another payload",
+        spoil: |_, m| change_nan(m.returned == 0, &mut m.out, |bits| bits ^ 1),
+        is_small: |c| c.words == [0; 6] && c.lists[0] == [f64::NAN.to_bits()] && c.rooms[0] == 1,
+    },
+    Planted {
+        op: NEG,
+        when: "a NaN is negated, which then keeps its sign",
+        spoil: |_, m| change_nan(m.returned == 0, &mut m.out, |bits| bits ^ SIGN),
+        is_small: |c| c.words == [0; 5] && c.lists[0] == [f64::NAN.to_bits()] && c.rooms[0] == 1,
+    },
+    Planted {
+        op: GET_BLADE,
+        when: "a signalling NaN is read, which is then quiet",
+        spoil: |_, m| change_nan(m.returned == 0, &mut m.values, |bits| bits | QUIET),
+        is_small: |c| c.words == [0; 6] && c.lists[0].len() == 1 && is_nan(c.lists[0][0]) && c.lists[0][0] & QUIET == 0,
+    },
+    Planted {
+        op: VALUE_AT,
+        when: "a shape past the 64th has more than nine dimensions, and only that",
+        spoil: |c, m| m.returned += only_later_is_large(c) as i64,
+        is_small: |c| c.words == [0] && c.lists[0].len() == 325 && c.lists[0].iter().sum::<u64>() == 10,
     },
     Planted {
         op: READ,
