@@ -45,7 +45,7 @@ impl fmt::Display for Multivector {
     fn fmt(&self, f: &mut fmt::Formatter<'_>) -> fmt::Result {
         let dims = self.dims();
         let first = u8::from(self.flavor().metric(0) != 0);
-        let order = self.shape().order();
+        let order = self.shape().order().map_err(|_| fmt::Error)?;
         let mut wrote = false;
         for (&number, &mask) in self.numbers().iter().zip(order.masks()) {
             if number == 0.0 {

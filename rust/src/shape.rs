@@ -14,9 +14,9 @@ pub const MAX_BLADES: usize = 1 << MAX_DIMS;
 /// ```
 /// use thresholm::{Flavor, Shape};
 /// let shape = Shape::new(3, Flavor::Vanilla);
-/// assert_eq!(shape.blade_count(), 8);
+/// assert_eq!(shape.blade_count()?, 8);
 /// assert_eq!(shape.grade_size(2)?, 3);
-/// assert_eq!(shape.order().masks(), [0, 1, 2, 4, 3, 5, 6, 7]);
+/// assert_eq!(shape.order()?.masks(), [0, 1, 2, 4, 3, 5, 6, 7]);
 /// # Ok::<(), thresholm::Error>(())
 /// ```
 #[derive(Clone, Copy, Debug, Default, PartialEq, Eq, Hash)]
@@ -46,9 +46,8 @@ impl Shape {
         lent::with_flavor(self, new_flavor)
     }
 
-    /// How many numbers a value of this shape has, 2^dims: 0 where the dimensions are above 9.
-    #[must_use]
-    pub fn blade_count(self) -> usize {
+    /// How many numbers a value of this shape has, 2^dims. Refused with [`Error::TooManyDims`].
+    pub fn blade_count(self) -> Result<usize, Error> {
         lent::blade_count(self.dims)
     }
 
@@ -57,15 +56,12 @@ impl Shape {
         lent::grade_size(self.dims, grade)
     }
 
-    /// The order in which the numbers of a value stand, that of no dimensions where they are above 9.
-    #[must_use]
-    pub fn order(self) -> Order {
+    /// The order in which the numbers of a value stand. Refused with [`Error::TooManyDims`].
+    pub fn order(self) -> Result<Order, Error> {
         let mut masks = vec![0; room(self.dims)];
         let mut places = vec![0; room(self.dims)];
-        let count = lent::order_of(self.dims, &mut masks, &mut places).unwrap_or(0);
-        masks.truncate(count);
-        places.truncate(count);
-        Order { masks, places }
+        lent::order_of(self.dims, &mut masks, &mut places)?;
+        Ok(Order { masks, places })
     }
 
     /// The shape as five numbers, as in the rig sheet: dims, kind, p, n, z.
@@ -100,10 +96,11 @@ pub(crate) fn room(dims: u8) -> usize {
 ///
 /// ```
 /// use thresholm::{Flavor, Shape};
-/// let order = Shape::new(4, Flavor::Vanilla).order();
+/// let order = Shape::new(4, Flavor::Vanilla).order()?;
 /// // The number of e23 (bits 1 and 2) stands at place 8.
 /// assert_eq!(order.places()[0b110], 8);
 /// assert_eq!(order.masks()[8], 0b110);
+/// # Ok::<(), thresholm::Error>(())
 /// ```
 #[derive(Clone, Debug, PartialEq, Eq, Hash)]
 pub struct Order {

@@ -21,7 +21,7 @@ unsafe extern "C" {
     pub fn thresholm_write_to(kind: u8, p: u8, n: u8, z: u8, out: *mut u8, out_len: usize, to_count: *mut usize) -> u8;
 
     // The order of masks.
-    pub fn thresholm_blade_count(dims: u8) -> usize;
+    pub fn thresholm_blade_count(dims: u8, to_count: *mut usize) -> u8;
     pub fn thresholm_grade_size(dims: u8, grade: u8, to_count: *mut usize) -> u8;
     pub fn thresholm_order_of(dims: u8, masks: *mut u16, masks_len: usize, places: *mut u16, places_len: usize, to_count: *mut usize) -> u8;
 

@@ -55,13 +55,14 @@ fn flavors(names: &mut Names) {
 }
 
 fn orders(names: &mut Names) {
-    call!(names, blade_count(9) => 512);
-    call!(names, blade_count(10) => 0);
+    call!(names, blade_count(9) => Ok(512));
+    call!(names, blade_count(10) => Err(Error::TooManyDims));
     call!(names, grade_size(9, 4) => Ok(126));
     let (mut masks, mut places) = ([9; 9], [9; 9]);
     call!(names, order_of(3, &mut masks, &mut places) => Ok(8));
     assert_eq!(masks, [0, 1, 2, 4, 3, 5, 6, 7, 9]);
     assert_eq!(places, [0, 1, 2, 4, 3, 5, 6, 7, 9]);
+    call!(names, order_of(10, &mut masks, &mut places) => Err(Error::TooManyDims));
 }
 
 fn shapes(names: &mut Names) {

@@ -23,6 +23,8 @@ fn dimensions_above_nine() {
     assert_eq!(Multivector::scalar(9, 1.0, Flavor::Projective).map(drop), refused);
     assert_eq!(Multivector::pseudoscalar(255, 1.0, Flavor::Vanilla).map(drop), refused);
     assert_eq!(ten.grade_size(1).map(drop), refused);
+    assert_eq!(ten.blade_count().map(drop), refused);
+    assert_eq!(Shape::new(255, Flavor::Projective).order().map(drop), refused);
     let nine = zero.set_dims(9).unwrap();
     assert_eq!(nine.set_flavor(Flavor::Projective).map(drop), refused);
     let shapes = [Shape::new(255, Flavor::Vanilla)];
@@ -57,6 +59,7 @@ fn no_room() {
     assert_eq!(text, [7; 2]);
     let (mut masks, mut places) = ([7; 4], [7; 3]);
     assert_eq!(lent::order_of(2, &mut masks, &mut places), Err(Error::NoRoom));
+    assert_eq!(lent::order_of(10, &mut masks, &mut places), Err(Error::TooManyDims));
     assert_eq!((masks, places), ([7; 4], [7; 3]));
 }
 

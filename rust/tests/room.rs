@@ -35,7 +35,7 @@ impl Draw {
         let dims = if self.below(8) == 0 { 7 + self.small(3) } else { self.small(5) };
         let shape = Shape::new(dims, self.flavor());
         let kind = self.below(4);
-        let numbers: Vec<f64> = (0..shape.blade_count())
+        let numbers: Vec<f64> = (0..shape.blade_count().unwrap())
             .map(|place| match kind {
                 0 if place != 0 => 0.0,
                 1 if place == 1 || place == 2 => 0.0,
@@ -56,7 +56,7 @@ fn same(value: Result<Multivector, Error>, call: impl FnOnce(&mut [f64]) -> Resu
         assert_ne!(lent, Err(Error::NoRoom));
         return assert_eq!(out, [77.0; MAX_BLADES]);
     };
-    assert_eq!(value.numbers().len(), value.shape().blade_count());
+    assert_eq!(value.numbers().len(), value.shape().blade_count().unwrap());
     for (a, b) in value.numbers().iter().zip(&out) {
         assert!(a.to_bits() == b.to_bits() || a.is_nan() && b.is_nan());
     }

@@ -28,7 +28,7 @@ fn gives(value: &Multivector, numbers: &[f64]) {
 
 #[test]
 fn orders() {
-    let masks = |dims| Shape::new(dims, Flavor::Vanilla).order().masks().to_vec();
+    let masks = |dims| Shape::new(dims, Flavor::Vanilla).order().unwrap().masks().to_vec();
     assert_eq!(masks(3), [0, 1, 2, 4, 3, 5, 6, 7]);
     assert_eq!(masks(4), [0, 1, 2, 4, 8, 3, 5, 9, 6, 10, 12, 7, 11, 13, 14, 15]);
 }

@@ -13,7 +13,7 @@
 /* The calls of the header, and those that are never refused. */
 #define CALLS 67
 static const char *const never_refused[] = {
-    "done", "metric", "null_flavor", "added_dims", "promotion", "blade_count", "shape_of", "with_dims", "with_flavor"};
+    "done", "metric", "null_flavor", "added_dims", "promotion", "shape_of", "with_dims", "with_flavor"};
 #define NEVER (sizeof never_refused / sizeof never_refused[0])
 
 /* What told and want are filled with before a call. */

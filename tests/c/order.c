@@ -2,11 +2,14 @@
 #include "check.h"
 
 static void sizes(void) {
-    GIVES(1, blade_count, 0);
-    GIVES(8, blade_count, 3);
-    GIVES(512, blade_count, 9);
-    GIVES(0, blade_count, 10);
-    GIVES(0, blade_count, 255);
+    want.count = 1;
+    CALL(0, blade_count, 0, &told.count);
+    want.count = 8;
+    CALL(0, blade_count, 3, &told.count);
+    want.count = 512;
+    CALL(0, blade_count, 9, &told.count);
+    CALL(1, blade_count, 10, &told.count);
+    CALL(1, blade_count, 255, &told.count);
 
     want.count = 3;
     CALL(0, grade_size, 3, 1, &told.count);

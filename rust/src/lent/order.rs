@@ -3,11 +3,10 @@ use super::tell_count;
 use crate::error::Error;
 use crate::sys;
 
-/// How many blades there are, 0 where the dimensions are above 9.
-#[must_use]
-pub fn blade_count(dims: u8) -> usize {
-    // SAFETY: the call takes a number alone.
-    unsafe { sys::thresholm_blade_count(dims) }
+/// How many blades there are, 2^dims.
+pub fn blade_count(dims: u8) -> Result<usize, Error> {
+    // SAFETY: the pointer is of a number that is borrowed for the call; see the module.
+    tell_count(|to_count| unsafe { sys::thresholm_blade_count(dims, to_count) })
 }
 
 /// The size of a grade: 0 for a grade above the dimensions.

@@ -163,7 +163,7 @@ fn number(r: &mut Rng, kind: Kind) -> f64 {
 }
 
 fn list(r: &mut Rng, shape: Shape, kind: Kind) -> (Shape, Vec<f64>) {
-    (shape, (0..shape.blade_count()).map(|_| number(r, kind)).collect())
+    (shape, (0..shape.blade_count().unwrap()).map(|_| number(r, kind)).collect())
 }
 
 #[test]

@@ -36,7 +36,7 @@ fn damaged_sheets() {
     let mut valid = 0;
     for _ in 0..150 {
         let shapes: Vec<Shape> = (0..2 + r.below(2)).map(|_| Shape::new(r.below(4) as u8, r.flavor())).collect();
-        let count = shapes.iter().map(|shape| shape.blade_count()).sum();
+        let count = shapes.iter().map(|shape| shape.blade_count().unwrap()).sum();
         let patterns: Vec<u64> = (0..count).map(|_| r.next()).collect();
         let mut bytes = sheet(&shapes, &patterns);
         for _ in 0..r.below(3) {

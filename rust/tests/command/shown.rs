@@ -96,7 +96,7 @@ fn what_is_shown_imports_as_the_same_bytes() {
     let mut r = Rng(1);
     for _ in 0..60 {
         let shapes: Vec<Shape> = (0..r.below(6)).map(|_| Shape::new(r.below(10) as u8, r.flavor())).collect();
-        let count = shapes.iter().map(|shape| shape.blade_count()).sum();
+        let count = shapes.iter().map(|shape| shape.blade_count().unwrap()).sum();
         let patterns: Vec<u64> = (0..count).map(|_| pattern(&mut r)).collect();
         let bytes = sheet(&shapes, &patterns);
         let rig = file(&folder, "one.rig", &bytes);

@@ -77,7 +77,10 @@ fn of_masks(c: &Call) -> Given<Answer> {
             dims(w[0])?;
             words(vec![0, grade_size(w[0] as u8, w[1] as u8) as u64])
         }
-        BLADE_COUNT => words(vec![if w[0] > 9 { 0 } else { 1 << w[0] }]),
+        BLADE_COUNT => {
+            dims(w[0])?;
+            words(vec![0, 1 << w[0]])
+        }
         ORDER_OF => {
             dims(w[0])?;
             let (masks, places) = mask_tables(w[0] as u8);
@@ -247,7 +250,7 @@ fn some_numbers(c: &Call) -> Given<Answer> {
 pub fn answer(c: &Call) -> Answer {
     of_masks(c).unwrap_or_else(|number| {
         let zeros = match c.op {
-            GRADE_SIZE | ORDER_OF | WRITE_TO | GRADE | UNPACK_ALL..=UNPACK_VECTOR => 1,
+            GRADE_SIZE | BLADE_COUNT | ORDER_OF | WRITE_TO | GRADE | UNPACK_ALL..=UNPACK_VECTOR => 1,
             TRY_FROM_STR => 4,
             CONFORM => 10,
             GET_BLADE => 0,

@@ -57,10 +57,7 @@ fn promotion(_: u8) -> Timed {
 }
 
 fn blade_count(d: u8) -> Timed {
-    timed(|_, to| {
-        to.count = unsafe { sys::thresholm_blade_count(black_box(d)) };
-        0
-    })
+    timed(|_, to| unsafe { sys::thresholm_blade_count(black_box(d), &mut to.count) })
 }
 
 fn order_of(d: u8) -> Timed {
@@ -164,7 +161,7 @@ pub const ROWS: &[Lone] = &[
         row: Row { call: "promotion", of: "Vanilla to Projective", at: promotion },
         why: "part of the Rust's `set_flavor`",
     },
-    Lone { row: Row { call: "blade_count", of: "", at: blade_count }, why: "a shift in the Rust's own calls" },
+    Lone { row: Row { call: "blade_count", of: "", at: blade_count }, why: "a shift in the reference's own calls" },
     Lone { row: Row { call: "order_of", of: "", at: order_of }, why: ORDER },
     Lone { row: Row { call: "read", of: "a sheet of four values", at: read }, why: SHEETS },
     Lone { row: Row { call: "write", of: "a sheet of four values", at: write }, why: SHEETS },

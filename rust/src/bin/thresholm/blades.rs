@@ -4,10 +4,9 @@ use thresholm::Shape;
 /// At 3 dimensions the place of this mask stands for its vectors in falling order, e31 or e20; everywhere else the order is rising.
 pub const TURNED: u16 = 0b101;
 
-/// The name of each place of a value, in order.
+/// The name of each place of a value, in order; none where its shape has too many dimensions.
 pub fn names(shape: Shape) -> Vec<String> {
-    let order = shape.order();
-    order.masks().iter().map(|mask| name(shape, *mask)).collect()
+    shape.order().iter().flat_map(|order| order.masks()).map(|mask| name(shape, *mask)).collect()
 }
 
 fn name(shape: Shape, mask: u16) -> String {

@@ -67,7 +67,7 @@ fn multiplied(left: &Factor, right: &Factor) -> Result<Step, Error> {
     let shape = product.value.shape();
     let null =
         (0..shape.dims).filter(|index| shape.flavor.metric(*index) == 0).fold(0, |mask, index| mask | 1 << index);
-    let masks: Vec<usize> = shape.order().masks().iter().map(|mask| usize::from(*mask)).collect();
+    let masks: Vec<usize> = shape.order()?.masks().iter().map(|mask| usize::from(*mask)).collect();
     let coefficients = Pair { masks: &masks, null, left: a.numbers(), right: b.numbers() }.coefficients();
     let open = coefficients.iter().any(|coefficient| coefficient.nearness == Nearness::Open);
     Ok(Step {

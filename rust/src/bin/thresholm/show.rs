@@ -59,7 +59,7 @@ fn squares(shape: Shape) -> String {
 /// Words about the one blade that a printed value names in falling order where its place stands for the rising one.
 pub fn turned_name(value: &Multivector) -> Option<String> {
     let shape = value.shape();
-    let place = shape.order().masks().iter().position(|mask| *mask == blades::TURNED)?;
+    let place = shape.order().ok()?.masks().iter().position(|mask| *mask == blades::TURNED)?;
     let there = shape.dims > 3 && value.numbers()[place] != 0.0;
     let name = blades::names(shape).swap_remove(place);
     let below = |digit: char| char::from_u32('₀' as u32 + digit.to_digit(10)?);

@@ -29,7 +29,7 @@ pub fn values_of(text: &str) -> Result<Vec<Value>, Fault> {
         if let Some((name, rest)) = line.parted(':') {
             values.extend(draft.take().map(finished).transpose()?);
             let shape = shape_of(rest)?;
-            numbers += shape.blade_count();
+            numbers += shape.blade_count().or_else(|error| rest.fault(error.to_string()))?;
             within_limits(name.trimmed(), values.len() + 1, numbers)?;
             draft = Some(Draft { name: name.trimmed(), shape, words: Vec::new() });
             continue;
@@ -113,7 +113,8 @@ fn pattern(word: &Piece) -> Result<u64, Fault> {
 /// A list of all numbers, in the order of places.
 fn in_order(draft: &Draft) -> Result<Vec<u64>, Fault> {
     let patterns: Vec<u64> = draft.words.iter().map(pattern).collect::<Result<_, _>>()?;
-    let (count, needed) = (patterns.len(), draft.shape.blade_count());
+    let needed = draft.shape.blade_count().or_else(|error| draft.name.fault(error.to_string()))?;
+    let count = patterns.len();
     let rule =
         format!("a value of {} has {}", counted(draft.shape.dims.into(), "dimension"), counted(needed, "number"));
     match draft.words.get(needed) {

@@ -100,7 +100,7 @@ fn named(op: u64, g: &mut Given, m: &mut Memory) -> i64 {
         PROMOTION => call!(g, m, thresholm_promotion: [flavor 1] [flavor 6]),
         TRY_FROM_STR => call!(g, m, thresholm_try_from_str: [in bytes] [to flavor 0]),
         WRITE_TO => call!(g, m, thresholm_write_to: [flavor 1] [lent text] [to counts 0]),
-        BLADE_COUNT => call!(g, m, thresholm_blade_count: [byte 0]),
+        BLADE_COUNT => call!(g, m, thresholm_blade_count: [byte 0] [to counts 0]),
         GRADE_SIZE => call!(g, m, thresholm_grade_size: [byte 0] [byte 1] [to counts 0]),
         ORDER_OF => call!(g, m, thresholm_order_of: [byte 0] [lent masks] [lent places] [to counts 0]),
         SHAPE_OF => call!(g, m, thresholm_shape_of: [shape 0] [to shape]),

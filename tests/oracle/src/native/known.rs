@@ -84,7 +84,7 @@ const fn call(name: &'static str, parts: &'static [Part], lends: Lends) -> Known
 #[rustfmt::skip]
 const CALLS: [Known; 67] = [
     call("grade_size", &[Dims, Word("grade")], Lends::Count),
-    call("blade_count", &[Dims], Lends::Nothing),
+    call("blade_count", &[Dims], Lends::Count),
     call("order_of", &[Dims], Lends::Masks),
     call("metric", &[Unused, Flavor, Word("index")], Lends::Nothing),
     call("try_from_str", &[Text], Lends::Flavor),
@@ -190,8 +190,18 @@ pub fn moves(op: u64) -> bool {
 /// How many calls there are.
 pub const MANY: usize = CALLS.len();
 
+/// Their numbers.
+pub fn numbers() -> impl Iterator<Item = u64> {
+    1..=MANY as u64
+}
+
+/// The place of a call among all.
+pub fn row(op: u64) -> usize {
+    op as usize - 1
+}
+
 pub fn known(op: u64) -> &'static Known {
-    &CALLS[op as usize - 1]
+    &CALLS[row(op)]
 }
 
 /// Each part of a call's words with the place at which it starts and how many words it has.

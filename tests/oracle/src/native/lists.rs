@@ -1,7 +1,7 @@
 //! Which calls are compared.
 use super::asked::{Asked, has_dims};
 use super::expected::expected;
-use super::known::{MANY, known};
+use super::known::{known, numbers};
 use super::memory::MARKS;
 use super::table::can_be_done_from;
 use super::{more_lists, named, nan_lists};
@@ -26,7 +26,7 @@ pub fn compared(count: u64, seed: u64, to: &mut impl FnMut(Asked)) {
     more_lists::extreme_pairs(each);
     every_dims(&mut r, to);
     for _ in 0..count {
-        for op in (1..=MANY as u64).filter(|op| !sheets::ALL.contains(op)) {
+        for op in numbers().filter(|op| !sheets::ALL.contains(op)) {
             to(drawn(&mut r, op));
         }
     }
@@ -40,7 +40,7 @@ pub fn compared(count: u64, seed: u64, to: &mut impl FnMut(Asked)) {
 
 /// For every call and every number of dimensions that it can have, three calls that are done.
 fn every_dims(r: &mut Rng, to: &mut impl FnMut(Asked)) {
-    for op in (1..=MANY as u64).filter(|op| has_dims(*op)) {
+    for op in numbers().filter(|op| has_dims(*op)) {
         for d in can_be_done_from(op) as u64..=9 {
             let fits =
                 |asked: &Asked| asked.dims() == Some(d) && !expected(asked, MARKS[0]).is_refused(known(op).lends);

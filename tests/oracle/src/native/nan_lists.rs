@@ -1,6 +1,6 @@
 //! Calls that only move numbers or turn their signs, with NaNs among the numbers: quiet and signalling, of both signs, of many payloads.
 use super::asked::Asked;
-use super::known::{MANY, moves};
+use super::known::{moves, numbers};
 use super::lists::drawn;
 use crate::arithmetic::{ALL as ARITHMETIC, ONE};
 use crate::arithmetic_lists::one;
@@ -50,7 +50,7 @@ fn with_nans(r: &mut Rng, mut c: Call) -> Call {
 
 /// The calls on values that move numbers.
 fn on_values() -> impl Iterator<Item = u64> {
-    (1..=MANY as u64).filter(|op| moves(*op) && !SHEETS.contains(op))
+    numbers().filter(|op| moves(*op) && !SHEETS.contains(op))
 }
 
 /// Every change of dimensions and flavor, every packing, every unpacking, every mask of few dimensions; the calls of arithmetic at every d; and so

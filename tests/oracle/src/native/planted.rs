@@ -1,14 +1,14 @@
 //! That differences are found and made small: ports that are wrong in one place, over the exports.
 use super::asked::Asked;
 use super::exports::actual;
-use super::known::{MANY, known};
+use super::known::{MANY, known, numbers};
 use super::lists::drawn;
 use super::memory::{AROUND, Cells, Memory};
 use super::plain::Plain;
 use super::run::{Comparison, difference};
 use super::shrink::shrunk;
 use crate::arithmetic::{MUL, NEG, POWI};
-use crate::masks::{CONFORM, GET_BLADE, SET_DIMS, TRY_FROM_STR, UNPACK_VECTOR};
+use crate::masks::{CONFORM, SCALAR, SET_DIMS, TRY_FROM_STR, UNPACK_VECTOR};
 use crate::numbers::Rng;
 use crate::products::GENERAL_PRODUCT;
 use crate::sheets::{READ, VALUE_AT};
@@ -125,10 +125,10 @@ const FAULTS: [Planted; 13] = [
         is_small: |c| c.words == [0; 5] && c.lists[0] == [f64::NAN.to_bits()] && c.rooms[0] == 1,
     },
     Planted {
-        op: GET_BLADE,
-        when: "a signalling NaN is read, which is then quiet",
-        spoil: |_, m| change_nan(m.returned == 0, &mut m.values, |bits| bits | QUIET),
-        is_small: |c| c.words == [0; 6] && c.lists[0].len() == 1 && is_nan(c.lists[0][0]) && c.lists[0][0] & QUIET == 0,
+        op: SCALAR,
+        when: "a signalling NaN is given, which is then quiet",
+        spoil: |_, m| change_nan(m.returned == 0, &mut m.out, |bits| bits | QUIET),
+        is_small: |c| c.words == [0; 5] && is_nan(c.lists[1][0]) && c.lists[1][0] & QUIET == 0 && c.rooms[0] == 1,
     },
     Planted {
         op: VALUE_AT,
@@ -188,7 +188,7 @@ fn every_call(seed: u64) {
     };
     let mut r = Rng(seed);
     let (mut told, mut small) = (0, 0);
-    for op in 1..=MANY as u64 {
+    for op in numbers() {
         let mut comparison = Comparison::new(&port, seed);
         for _ in 0..20 {
             comparison.call(drawn(&mut r, op));

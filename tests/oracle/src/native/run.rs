@@ -2,7 +2,7 @@
 use super::asked::Asked;
 use super::expected::expected;
 use super::exports::actual;
-use super::known::{MANY, known};
+use super::known::{MANY, known, numbers, row};
 use super::memory::{MARKS, Memory};
 use super::more_lists::spelled;
 use super::table::Table;
@@ -81,7 +81,7 @@ impl<'a> Comparison<'a> {
         if wanted.same(&(self.port)(&asked, mark)) { self.agree += 1 } else { self.differs(asked) }
     }
     fn differs(&mut self, asked: Asked) {
-        self.differ[asked.op() as usize - 1] += 1;
+        self.differ[row(asked.op())] += 1;
         self.first.get_or_insert((self.made, asked));
     }
     pub fn agreeing(&self) -> u64 {
@@ -100,7 +100,8 @@ impl<'a> Comparison<'a> {
         );
         if let Some((number, asked)) = &self.first {
             show(self.port, *number, asked, seed);
-            let some = (1..).zip(self.differ).filter(|(_, n)| *n > 0).map(|(op, n)| format!("{} {n}", known(op).name));
+            let some =
+                numbers().zip(self.differ).filter(|(_, n)| *n > 0).map(|(op, n)| format!("{} {n}", known(op).name));
             println!("  that differ, of each call: {}", some.collect::<Vec<_>>().join(", "));
         }
         self.table.print();

@@ -1,6 +1,6 @@
 //! How many calls were compared, by name and by dimensions.
 use super::asked::{Asked, has_dims};
-use super::known::{MANY, known};
+use super::known::{MANY, known, numbers, row};
 use crate::masks::N_1_BLADES;
 
 /// The column of calls that name no dimension, or one above 9.
@@ -19,7 +19,7 @@ impl Table {
         Table { all: [[0; NONE + 1]; MANY], refused: [[0; NONE + 1]; MANY] }
     }
     pub fn count(&mut self, asked: &Asked, is_refused: bool) {
-        let row = asked.op() as usize - 1;
+        let row = row(asked.op());
         let column = asked.dims().map_or(NONE, |d| NONE.min(d as usize));
         self.all[row][column] += 1;
         self.refused[row][column] += is_refused as u64;
@@ -32,8 +32,8 @@ impl Table {
         };
         let head: String = (0..NONE).map(|d| format!("{d:9}")).collect();
         println!("{:>18}{head}     none       all  refused", "calls with d =");
-        for (row, all) in self.all.iter().enumerate() {
-            line(known(row as u64 + 1).name, all, self.refused[row].iter().sum());
+        for (op, (all, refused)) in numbers().zip(self.all.iter().zip(&self.refused)) {
+            line(known(op).name, all, refused.iter().sum());
         }
         let columns: Vec<u64> = (0..=NONE).map(|d| self.all.iter().map(|row| row[d]).sum()).collect();
         line("every call", &columns, self.refused.iter().flatten().sum());
@@ -41,8 +41,8 @@ impl Table {
     /// The calls of which none that is done was compared, or none with some number of dimensions that it can have.
     pub fn missing(&self) -> Vec<String> {
         let mut list = vec![];
-        for op in 1..=MANY as u64 {
-            let (all, refused, name) = (&self.all[op as usize - 1], &self.refused[op as usize - 1], known(op).name);
+        for op in numbers() {
+            let (all, refused, name) = (&self.all[row(op)], &self.refused[row(op)], known(op).name);
             if all == refused {
                 list.push(name.to_string());
             }

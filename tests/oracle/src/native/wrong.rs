@@ -2,7 +2,7 @@
 use super::asked::Asked;
 use super::expected::expected;
 use super::exports::actual;
-use super::known::{MANY, known, moves};
+use super::known::{MANY, known, moves, numbers, row};
 use super::memory::{AROUND, LISTS, MARKS, Memory, REFERENCES};
 use super::more_lists::orders;
 use super::named::{self, DONE, REFUSED};
@@ -19,14 +19,14 @@ type Kind = (&'static str, fn(u64) -> bool);
 const KINDS: [Kind; 11] = [
     ("another number returned", |_| true),
     ("what goes in changed", |_| true),
-    ("a reference told otherwise, by one bit", |op| has_lent(op, 0..REFERENCES)),
-    ("a reference not told", |op| has_lent(op, 0..REFERENCES)),
+    ("a reference with one bit otherwise", |op| has_lent(op, 0..REFERENCES)),
+    ("a reference not written", |op| has_lent(op, 0..REFERENCES)),
     ("a result with one bit otherwise", |op| has_lent(op, REFERENCES..LISTS.len())),
     ("a result with the sign or the highest bit otherwise", |op| has_lent(op, REFERENCES..LISTS.len())),
     ("a result not written", |op| has_lent(op, REFERENCES..LISTS.len())),
     ("a number written past the result", |op| has_lent(op, REFERENCES..LISTS.len())),
     ("a number written before what is lent or past its end", |op| has_lent(op, 0..LISTS.len())),
-    ("a reference told or a number written by a refusal", |op| known(op).lends.returns_refusal() && op != DONE),
+    ("a reference or a number written by a refusal", |op| known(op).lends.returns_refusal() && op != DONE),
     ("a NaN that is only moved, with another payload or sign", |op| moves(op) && has_numbers(op)),
 ];
 
@@ -62,7 +62,7 @@ struct Right {
 
 impl Tally {
     fn count(&mut self, kind: usize, right: &Right) {
-        let row = right.op as usize - 1;
+        let row = row(right.op);
         self.all[kind][row] += 1;
         self.apart[kind][row] += !right.wanted.same(&right.given) as u64;
     }
@@ -130,10 +130,9 @@ impl Tally {
         let (mut apart_of_all, mut all_of_all) = (0, 0);
         for (kind, (text, can_be)) in KINDS.iter().enumerate() {
             let (apart, all) = (self.apart[kind].iter().sum::<u64>(), self.all[kind].iter().sum::<u64>());
-            let made = |op: &u64| self.all[kind][*op as usize - 1] > 0;
-            let never: Vec<&str> =
-                (1..=MANY as u64).filter(|op| can_be(*op) && !made(op)).map(|op| known(op).name).collect();
-            let calls = (1..=MANY as u64).filter(made).count();
+            let made = |op: &u64| self.all[kind][row(*op)] > 0;
+            let never: Vec<&str> = numbers().filter(|op| can_be(*op) && !made(op)).map(|op| known(op).name).collect();
+            let calls = numbers().filter(made).count();
             line(apart == all && never.is_empty(), format!("{text}: {apart} of {all} told apart, of {calls} calls"));
             if !never.is_empty() {
                 println!("  none was made of {}", never.join(", "));
