@@ -3,15 +3,15 @@
 
 static void one_blade(void) {
     want.value = 4;
-    CALL(0, get_blade, 2, VGA, 3, FIRST(4), &told.value);
+    CALL(0, get_blade, 2, VGA, 3, FIRST(4), &got.value);
     want.value = 5;
-    CALL(0, get_blade, 3, PGA, 3, FIRST(8), &told.value);
+    CALL(0, get_blade, 3, PGA, 3, FIRST(8), &got.value);
     want.value = 0;
-    CALL(0, get_blade, 2, VGA, 4, FIRST(4), &told.value);
+    CALL(0, get_blade, 2, VGA, 4, FIRST(4), &got.value);
     want.value = 0;
-    CALL(0, get_blade, 2, VGA, SIZE_MAX, FIRST(4), &told.value);
-    CALL(1, get_blade, 10, VGA, 3, FIRST(3), &told.value);
-    CALL(2, get_blade, 2, VGA, 3, FIRST(3), &told.value);
+    CALL(0, get_blade, 2, VGA, SIZE_MAX, FIRST(4), &got.value);
+    CALL(1, get_blade, 10, VGA, 3, FIRST(3), &got.value);
+    CALL(2, get_blade, 2, VGA, 3, FIRST(3), &got.value);
 }
 
 /* Growing by one dimension at a time goes through 3 to 4, which leaves -0 at mask 101. */
@@ -36,13 +36,13 @@ static void one_grade(void) {
 
     want.start = 4;
     want.count = 3;
-    CALL(0, grade, 3, VGA, 2, FIRST(8), &told.start, &told.count);
+    CALL(0, grade, 3, VGA, 2, FIRST(8), &got.start, &got.count);
     want.start = 0;
     want.count = 1;
-    CALL(0, grade, 0, PGA, 0, FIRST(1), &told.start, &told.count);
-    CALL(1, grade, 10, VGA, 11, FIRST(7), &told.start, &told.count);
-    CALL(2, grade, 3, VGA, 4, FIRST(7), &told.start, &told.count);
-    CALL(4, grade, 3, VGA, 4, FIRST(8), &told.start, &told.count);
+    CALL(0, grade, 0, PGA, 0, FIRST(1), &got.start, &got.count);
+    CALL(1, grade, 10, VGA, 11, FIRST(7), &got.start, &got.count);
+    CALL(2, grade, 3, VGA, 4, FIRST(7), &got.start, &got.count);
+    CALL(4, grade, 3, VGA, 4, FIRST(8), &got.start, &got.count);
 }
 
 void blades(void) {

@@ -16,10 +16,10 @@ static const char *const never_refused[] = {
     "done", "metric", "null_flavor", "added_dims", "promotion", "shape_of", "with_dims", "with_flavor"};
 #define NEVER (sizeof never_refused / sizeof never_refused[0])
 
-/* What told and want are filled with before a call. */
+/* What got and want are filled with before a call. */
 #define MARK 0xA5
 
-Told told, want;
+Got got, want;
 const double numbers[ROOM] = {1, 2, 3, 4, 5, 6, 7, 8, 9, 10, 11, 12, 13, 14, 15, 16};
 
 /* The calls that were made, and the last group that made each; bit k of refused says that one was refused with k. */
@@ -33,7 +33,7 @@ static size_t calls, calls_of_group, answers, failures;
 static int wrong;
 
 static void fresh(void) {
-    memset(&told, MARK, sizeof told);
+    memset(&got, MARK, sizeof got);
     memset(&want, MARK, sizeof want);
 }
 
@@ -94,7 +94,7 @@ void want_patterns(const uint64_t *patterns, size_t count) {
 /* ---- the comparison */
 
 /* The parts of the record, by where they begin. */
-#define PART(part) {#part, offsetof(Told, part)}
+#define PART(part) {#part, offsetof(Got, part)}
 static const struct {
     const char *name;
     size_t begin;
@@ -110,7 +110,7 @@ static void one_nan(double *x, size_t count) {
         if (x[i] != x[i]) memcpy(&x[i], &nan_pattern, sizeof nan_pattern);
 }
 
-static void one_nan_in(Told *record) {
+static void one_nan_in(Got *record) {
     one_nan(&record->value, 1);
     one_nan(&record->re, 1);
     one_nan(&record->im, 1);
@@ -119,7 +119,7 @@ static void one_nan_in(Told *record) {
 }
 
 static void say_difference(const char *label) {
-    const unsigned char *have = (const unsigned char *)&told, *should = (const unsigned char *)&want;
+    const unsigned char *have = (const unsigned char *)&got, *should = (const unsigned char *)&want;
     size_t at = 0, part = 0;
     while (have[at] == should[at]) at++;
     while (part + 1 < sizeof parts / sizeof parts[0] && parts[part + 1].begin <= at) part++;
@@ -138,14 +138,14 @@ static size_t index_of(const char *name) {
 static void judge(const char *name, const char *file, int line, long expected, long returned) {
     char label[200];
     snprintf(label, sizeof label, "%s: thresholm_%s (%s, line %d)", LANGUAGE, name, file, line);
-    one_nan_in(&told);
+    one_nan_in(&got);
     one_nan_in(&want);
     if (wrong) spoil(&expected);
     answers++;
     if (returned != expected) {
         printf("FAILED: %s: returned %ld where %ld is expected\n", label, returned, expected);
         failures++;
-    } else if (memcmp(&told, &want, sizeof told) != 0) {
+    } else if (memcmp(&got, &want, sizeof got) != 0) {
         say_difference(label);
         failures++;
     }

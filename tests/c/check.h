@@ -1,6 +1,6 @@
 /* What the tests of the C face share.
  *
- * All that a call can write is in one record, told. Before each call it is filled with one byte; want is the same record
+ * All that a call can write is in one record, got. Before each call it is filled with one byte; want is the same record
  * with what is expected laid into it. So one comparison, byte for byte, holds the results, what is past them in an
  * output, and after a refusal that nothing was written. Only a NaN is equal to any other. */
 #ifndef CHECK_H
@@ -11,7 +11,7 @@
 /* An output of a value has room for any, and a number more. */
 #define ROOM (THRESHOLM_MAX_BLADES + 1)
 
-typedef struct Told {
+typedef struct Got {
     uint8_t dims, kind, p, n, z;
     uint8_t dims_right, kind_right, p_right, n_right, z_right;
     uint8_t test, yes;
@@ -23,9 +23,9 @@ typedef struct Told {
     uint16_t masks[ROOM], places[ROOM];
     uint64_t patterns[ROOM];
     uint8_t bytes[ROOM];
-} Told;
+} Got;
 
-extern Told told, want;
+extern Got got, want;
 
 /* 1, 2, 3 and so on to 16, and then zeros. */
 extern const double numbers[ROOM];
@@ -37,16 +37,16 @@ extern const double numbers[ROOM];
 #define LENT(a) a, sizeof(a) / sizeof(a)[0]
 #define FIRST(count) numbers, count
 #define TEXT(text) (const uint8_t *)(text), sizeof(text) - 1
-#define OUT(room) told.out, room
-#define TO_FLAVOR &told.kind, &told.p, &told.n, &told.z
-#define TO_SHAPE &told.dims, TO_FLAVOR
-#define TO_FLAVOR_RIGHT &told.kind_right, &told.p_right, &told.n_right, &told.z_right
+#define OUT(room) got.out, room
+#define TO_FLAVOR &got.kind, &got.p, &got.n, &got.z
+#define TO_SHAPE &got.dims, TO_FLAVOR
+#define TO_FLAVOR_RIGHT &got.kind_right, &got.p_right, &got.n_right, &got.z_right
 
 /* A call that must return a number, 0 or that of a refusal; one that must give a number that is no refusal's; and one
  * that returns nothing. Each must have written what want says. */
 #define CALL(number, name, ...) answered(#name, __FILE__, __LINE__, number, thresholm_##name(__VA_ARGS__))
 #define GIVES(number, name, ...) gave(#name, __FILE__, __LINE__, number, (long)thresholm_##name(__VA_ARGS__))
-#define TELLS(name, ...) (thresholm_##name(__VA_ARGS__), gave(#name, __FILE__, __LINE__, 0, 0))
+#define WRITES(name, ...) (thresholm_##name(__VA_ARGS__), gave(#name, __FILE__, __LINE__, 0, 0))
 
 void answered(const char *name, const char *file, int line, long expected, long returned);
 void gave(const char *name, const char *file, int line, long expected, long returned);

@@ -13,7 +13,7 @@ static void metrics(void) {
     GIVES(1, metric, 1, 9, 9, 9, 1);         /* n and z are ignored unless it is Cl */
 
     want_flavor(CL(0, 0, 255));
-    TELLS(null_flavor, TO_FLAVOR);
+    WRITES(null_flavor, TO_FLAVOR);
 
     GIVES(0, added_dims, VGA);
     GIVES(1, added_dims, PGA);
@@ -52,20 +52,20 @@ static void texts_refused(void) {
 
 static void texts_written(void) {
     want_bytes(TEXT("VGA"));
-    CALL(0, write_to, VGA, told.bytes, 3, &told.count);
+    CALL(0, write_to, VGA, got.bytes, 3, &got.count);
     want_bytes(TEXT("PGA"));
-    CALL(0, write_to, PGA, told.bytes, 14, &told.count);
+    CALL(0, write_to, PGA, got.bytes, 14, &got.count);
     want_bytes(TEXT("Cl3"));
-    CALL(0, write_to, CL(3, 0, 0), told.bytes, 14, &told.count);
+    CALL(0, write_to, CL(3, 0, 0), got.bytes, 14, &got.count);
     want_bytes(TEXT("Cl 3 1"));
-    CALL(0, write_to, CL(3, 1, 0), told.bytes, 14, &told.count);
+    CALL(0, write_to, CL(3, 1, 0), got.bytes, 14, &got.count);
     want_bytes(TEXT("Cl 3 1 1"));
-    CALL(0, write_to, CL(3, 1, 1), told.bytes, 14, &told.count);
+    CALL(0, write_to, CL(3, 1, 1), got.bytes, 14, &got.count);
     want_bytes(TEXT("Cl 255 255 255"));
-    CALL(0, write_to, CL(255, 255, 255), told.bytes, 14, &told.count);
-    CALL(3, write_to, CL(255, 255, 255), told.bytes, 13, &told.count);
-    CALL(3, write_to, VGA, told.bytes, 2, &told.count);
-    CALL(3, write_to, VGA, told.bytes, 0, &told.count);
+    CALL(0, write_to, CL(255, 255, 255), got.bytes, 14, &got.count);
+    CALL(3, write_to, CL(255, 255, 255), got.bytes, 13, &got.count);
+    CALL(3, write_to, VGA, got.bytes, 2, &got.count);
+    CALL(3, write_to, VGA, got.bytes, 0, &got.count);
 }
 
 void flavors(void) {

@@ -14,7 +14,7 @@ static void grown(void) {
 static void multiplied(void) {
     want_value(9, PGA, LENT(six));
     want.pairs = 3 * 65536;
-    CALL(0, general_product, 8, VGA, 9, PGA, two, 256, LENT(three), OUT(512), TO_SHAPE, &told.pairs);
+    CALL(0, general_product, 8, VGA, 9, PGA, two, 256, LENT(three), OUT(512), TO_SHAPE, &got.pairs);
     want_value(9, PGA, LENT(e2));
     CALL(0, div, 8, VGA, 9, PGA, unit, 256, LENT(e2), OUT(512), TO_SHAPE);
     want_value(9, VGA, LENT(power));

@@ -1,7 +1,7 @@
 /* The five products. */
 #include "check.h"
 
-#define TO_PRODUCT TO_SHAPE, &told.pairs
+#define TO_PRODUCT TO_SHAPE, &got.pairs
 
 static const double e1[4] = {0, 1, 0, 0}, e2[4] = {0, 0, 1, 0}, e12[4] = {0, 0, 0, 1}, nothing[8] = {0};
 

@@ -25,7 +25,7 @@ static void tests_of_a_pair(void) {
     CALL(3, pair_refusal, 1, 2, 3, 2, 4, 7);
 }
 
-/* A refusal tells nothing; number 0 refuses nothing, and tells shape 0 Vanilla. */
+/* A refusal writes nothing; number 0 refuses nothing, and gives shape 0 Vanilla. */
 static void answers_of_a_call(void) {
     CALL(3, refused, 3, TO_SHAPE);
     GIVES(255, refused, 255, TO_SHAPE);

@@ -8,15 +8,15 @@ static const double e31_promoted[16] = {0, 0, 0, 0, 0, 0, 0, 0, 0, 1};
 
 static void shapes_alone(void) {
     want_shape(3, CL(1, 2, 3));
-    TELLS(shape_of, 3, 9, 1, 2, 3, TO_SHAPE);
+    WRITES(shape_of, 3, 9, 1, 2, 3, TO_SHAPE);
     want_shape(200, PGA);
-    TELLS(shape_of, 200, 1, 7, 7, 7, TO_SHAPE);
+    WRITES(shape_of, 200, 1, 7, 7, 7, TO_SHAPE);
     want_shape(5, CL(1, 2, 3));
-    TELLS(with_dims, 3, CL(1, 2, 3), 5, TO_SHAPE);
+    WRITES(with_dims, 3, CL(1, 2, 3), 5, TO_SHAPE);
     want_shape(3, PGA);
-    TELLS(with_flavor, 3, VGA, PGA, TO_SHAPE);
+    WRITES(with_flavor, 3, VGA, PGA, TO_SHAPE);
     want_shape(3, VGA);
-    TELLS(with_flavor, 3, CL(1, 2, 3), 0, 9, 9, 9, TO_SHAPE);
+    WRITES(with_flavor, 3, CL(1, 2, 3), 0, 9, 9, 9, TO_SHAPE);
 }
 
 static void other_dimensions(void) {
@@ -67,8 +67,8 @@ static void one_conformed(void) {
     CALL(3, conform_to, 1, VGA, 1, PGA, LENT(both), OUT(3), TO_SHAPE);
 }
 
-#define OUTS(room, room_right) told.out, room, told.out_right, room_right
-#define TO_SHAPES TO_SHAPE, &told.dims_right, TO_FLAVOR_RIGHT
+#define OUTS(room, room_right) got.out, room, got.out_right, room_right
+#define TO_SHAPES TO_SHAPE, &got.dims_right, TO_FLAVOR_RIGHT
 
 static void two_conformed(void) {
     static const double both[2] = {3, 4}, left[8] = {3, 0, 4}, four[4] = {5, 6, 7, 8}, right[4] = {5, 6, 0, 0};

@@ -97,19 +97,19 @@ static void scalars(void) {
     REFUSES_ONE(make_scalar_only, TO_SHAPE);
     want_value(2, VGA, LENT(without));
     want.value = 5;
-    CALL(0, take_scalar, 2, VGA, LENT(a), OUT(ROOM), TO_SHAPE, &told.value);
-    REFUSES_ONE(take_scalar, TO_SHAPE, &told.value);
+    CALL(0, take_scalar, 2, VGA, LENT(a), OUT(ROOM), TO_SHAPE, &got.value);
+    REFUSES_ONE(take_scalar, TO_SHAPE, &got.value);
 }
 
 static void magnitudes(void) {
     want.value = 30;
-    CALL(0, squared_magnitude, 2, VGA, FIRST(4), &told.value);
+    CALL(0, squared_magnitude, 2, VGA, FIRST(4), &got.value);
     want.value = 10;
-    CALL(0, squared_magnitude, 2, PGA, FIRST(4), &told.value);
+    CALL(0, squared_magnitude, 2, PGA, FIRST(4), &got.value);
     want.value = -8;
-    CALL(0, squared_magnitude, 2, CL(0, 1, 1), FIRST(4), &told.value);
-    CALL(1, squared_magnitude, 10, VGA, FIRST(3), &told.value);
-    CALL(2, squared_magnitude, 2, VGA, FIRST(3), &told.value);
+    CALL(0, squared_magnitude, 2, CL(0, 1, 1), FIRST(4), &got.value);
+    CALL(1, squared_magnitude, 10, VGA, FIRST(3), &got.value);
+    CALL(2, squared_magnitude, 2, VGA, FIRST(3), &got.value);
 }
 
 static void want_test(uint8_t test, double re, double im) {
@@ -121,13 +121,13 @@ static void want_test(uint8_t test, double re, double im) {
 static void tests(void) {
     static const double scalar[2] = {4, -0.0}, planar[4] = {3, 0, -0.0, 4};
     want_test(0, 4, 0);
-    CALL(0, scalar_test, 1, VGA, LENT(scalar), &told.test, &told.re, &told.im);
+    CALL(0, scalar_test, 1, VGA, LENT(scalar), &got.test, &got.re, &got.im);
     want_test(1, 3, 4);
-    CALL(0, scalar_test, 2, VGA, LENT(planar), &told.test, &told.re, &told.im);
+    CALL(0, scalar_test, 2, VGA, LENT(planar), &got.test, &got.re, &got.im);
     want_test(2, 0, 0);
-    CALL(0, scalar_test, 2, PGA, LENT(planar), &told.test, &told.re, &told.im);
-    CALL(1, scalar_test, 10, VGA, FIRST(3), &told.test, &told.re, &told.im);
-    CALL(2, scalar_test, 2, VGA, FIRST(3), &told.test, &told.re, &told.im);
+    CALL(0, scalar_test, 2, PGA, LENT(planar), &got.test, &got.re, &got.im);
+    CALL(1, scalar_test, 10, VGA, FIRST(3), &got.test, &got.re, &got.im);
+    CALL(2, scalar_test, 2, VGA, FIRST(3), &got.test, &got.re, &got.im);
 }
 
 void values(void) {

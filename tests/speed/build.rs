@@ -13,7 +13,7 @@ fn made(root: &Path) -> PathBuf {
         .current_dir(root)
         .stderr(Stdio::inherit())
         .output();
-    let said = tool.expect("bash is at hand");
+    let said = tool.expect("bash is available");
     assert!(said.status.success(), "tools/native-archive made no archive");
     let lines = String::from_utf8(said.stdout).expect("text");
     root.join(lines.lines().last().expect("a path"))

@@ -74,7 +74,7 @@ fn set_blade(d: u8, mask: usize) -> Timed {
 fn grade(d: u8) -> Timed {
     let (v, g) = (dense(Projective, d), d / 2);
     let ours = asked!(thresholm_grade, v, g; start, count);
-    // Ours tells where in the caller's numbers the grade stands; the Rust hands that part of its own out.
+    // Ours gives where the grade stands in the caller's numbers; the reference hands out that part of its own.
     let theirs = |i: usize| (i, v.values[i].grades().nth(black_box(g) as usize).unwrap());
     cell(theirs, ours, |(i, part), to| {
         part.len() == to.count && same_numbers(part, &v.numbers[*i][to.start..][..to.count])

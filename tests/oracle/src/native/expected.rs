@@ -53,24 +53,24 @@ fn value(c: &Call, a: Answer, m: &mut Memory) {
     if m.returned != 0 {
         return;
     }
-    let told = &a.words[a.words.len().min(1)..];
+    let rest = &a.words[a.words.len().min(1)..];
     match lends {
         Lends::Nothing | Lends::OnlyFlavor | Lends::OnlyShape => {}
         Lends::Flavor | Lends::Shape | Lends::Value | Lends::Values | Lends::Yes | Lends::Test => {
-            m.bytes.put(bytes(told))
+            m.bytes.put(bytes(rest))
         }
-        Lends::Product | Lends::Taken => m.bytes.put(bytes(&told[..5])),
-        Lends::Order => m.order.put([told[0] as i8 - 1].into_iter()),
-        Lends::Start => m.counts.put([start(c), told[0] as usize].into_iter()),
-        Lends::Count | Lends::List | Lends::Text => m.counts.put([told[0] as usize].into_iter()),
+        Lends::Product | Lends::Taken => m.bytes.put(bytes(&rest[..5])),
+        Lends::Order => m.order.put([rest[0] as i8 - 1].into_iter()),
+        Lends::Start => m.counts.put([start(c), rest[0] as usize].into_iter()),
+        Lends::Count | Lends::List | Lends::Text => m.counts.put([rest[0] as usize].into_iter()),
         Lends::Number => {}
         _ => unreachable!("not lent to this call"),
     }
-    numbers(lends, told, &a, m);
+    numbers(lends, rest, &a, m);
 }
 
 /// What is written to outputs, and to references to numbers.
-fn numbers(lends: Lends, told: &[u64], a: &Answer, m: &mut Memory) {
+fn numbers(lends: Lends, rest: &[u64], a: &Answer, m: &mut Memory) {
     let (out, right) = (a.out.iter().copied(), a.right.iter().copied());
     match lends {
         Lends::Value | Lends::List => m.out.put(out),
@@ -80,7 +80,7 @@ fn numbers(lends: Lends, told: &[u64], a: &Answer, m: &mut Memory) {
         }
         Lends::Product => {
             m.out.put(out);
-            m.pairs.put([told[5] as u32].into_iter());
+            m.pairs.put([rest[5] as u32].into_iter());
         }
         Lends::Taken => {
             m.out.put(out);
@@ -91,7 +91,7 @@ fn numbers(lends: Lends, told: &[u64], a: &Answer, m: &mut Memory) {
             let part = |i: usize| a.out.get(i).copied().unwrap_or(0.0);
             m.values.put([part(0), part(1)].into_iter())
         }
-        Lends::Text => m.text.put(a.out[..told[0] as usize].iter().map(|b| *b as u8)),
+        Lends::Text => m.text.put(a.out[..rest[0] as usize].iter().map(|b| *b as u8)),
         _ => {}
     }
 }

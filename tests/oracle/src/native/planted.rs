@@ -187,17 +187,17 @@ fn every_call(seed: u64) {
         m
     };
     let mut r = Rng(seed);
-    let (mut told, mut small) = (0, 0);
+    let (mut apart, mut small) = (0, 0);
     for op in numbers() {
         let mut comparison = Comparison::new(&port, seed);
         for _ in 0..20 {
             comparison.call(drawn(&mut r, op));
         }
         let first = comparison.first().map(|asked| (Plain::of(asked), Plain::of(&shrunk(&port, asked))));
-        told += (comparison.agreeing() == 0) as usize;
+        apart += (comparison.agreeing() == 0) as usize;
         small += first.is_some_and(|(large, small)| small.size() <= large.size() && small.op == op) as usize;
     }
-    for (count, text) in [(told, "none of 20 wrong answers agrees"), (small, "the first wrong answer is made small")] {
+    for (count, text) in [(apart, "none of 20 wrong answers agrees"), (small, "the first wrong answer is made small")] {
         println!("{}: for {count} of {MANY} calls {text}", if count == MANY { "ok" } else { "FAILED" });
     }
 }
