@@ -20,6 +20,7 @@ int main(int argc, char **argv) {
     group("compare", compare);
     group("sheet", sheet);
     group("nine dimensions", nine);
+    group("the bits of NaNs", nan_bits);
     if (argc > 1 && strcmp(argv[1], "numbers") == 0) say_numbers();
     return every_call();
 }

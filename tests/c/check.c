@@ -30,12 +30,15 @@ static struct {
 } made[2 * CALLS];
 static const char *this_group;
 static size_t calls, calls_of_group, answers, failures;
-static int wrong;
+static int wrong, has_nan_bits;
 
 static void fresh(void) {
     memset(&got, MARK, sizeof got);
     memset(&want, MARK, sizeof want);
+    has_nan_bits = 0;
 }
+
+void with_nan_bits(void) { has_nan_bits = 1; }
 
 /* Every other answer is expected wrong in its number, and the rest in one bit of what is written. */
 void expect_wrong(void) { wrong = 1; }
@@ -138,8 +141,8 @@ static size_t index_of(const char *name) {
 static void judge(const char *name, const char *file, int line, long expected, long returned) {
     char label[200];
     snprintf(label, sizeof label, "%s: thresholm_%s (%s, line %d)", LANGUAGE, name, file, line);
-    one_nan_in(&got);
-    one_nan_in(&want);
+    if (!has_nan_bits) one_nan_in(&got);
+    if (!has_nan_bits) one_nan_in(&want);
     if (wrong) spoil(&expected);
     answers++;
     if (returned != expected) {

@@ -2,7 +2,7 @@
  *
  * All that a call can write is in one record, got. Before each call it is filled with one byte; want is the same record
  * with what is expected laid into it. So one comparison, byte for byte, holds the results, what is past them in an
- * output, and after a refusal that nothing was written. Only a NaN is equal to any other. */
+ * output, and after a refusal that nothing was written. A NaN is equal to any other, but where numbers only move. */
 #ifndef CHECK_H
 #define CHECK_H
 
@@ -48,6 +48,10 @@ extern const double numbers[ROOM];
 #define GIVES(number, name, ...) gave(#name, __FILE__, __LINE__, number, (long)thresholm_##name(__VA_ARGS__))
 #define WRITES(name, ...) (thresholm_##name(__VA_ARGS__), gave(#name, __FILE__, __LINE__, 0, 0))
 
+/* A call that must be done, and after which a NaN must have just the bits that want says. */
+#define MOVES(name, ...) (with_nan_bits(), CALL(0, name, __VA_ARGS__))
+
+void with_nan_bits(void);
 void answered(const char *name, const char *file, int line, long expected, long returned);
 void gave(const char *name, const char *file, int line, long expected, long returned);
 
@@ -83,7 +87,7 @@ void want_patterns(const uint64_t *patterns, size_t count);
         CALL(3, name, 1, VGA, 1, PGA, FIRST(2), FIRST(2), OUT(3), __VA_ARGS__);     \
     } while (0)
 
-/* The groups, as the exports have them, and nine dimensions. */
+/* The groups, as the exports have them; nine dimensions; NaNs that move. */
 void refusals(void);
 void flavors(void);
 void order(void);
@@ -97,6 +101,7 @@ void values(void);
 void compare(void);
 void sheet(void);
 void nine(void);
+void nan_bits(void);
 
 /* How they go. */
 void expect_wrong(void);
