@@ -192,29 +192,9 @@ fn write_limits(each: &mut impl FnMut(SheetCall)) {
         each(write(n, held, &s.patterns[1..], size));
         each(write(n, held, &[&s.patterns[..], &[7]].concat(), size + 8));
     }
-    let counts = [
-        0,
-        1,
-        2,
-        3,
-        62,
-        63,
-        64,
-        65,
-        66,
-        127,
-        128,
-        255,
-        256,
-        257,
-        320,
-        1 << 16,
-        (1 << 16) + 1,
-        1 << 32,
-        (1 << 32) + 1,
-        1 << 63,
-    ];
-    for count in counts.into_iter().chain([u64::MAX - 1, u64::MAX]) {
+    let small = [0, 1, 2, 3, 62, 63, 64, 65, 66, 127, 128, 255, 256, 257, 320];
+    let large = [1 << 16, (1 << 16) + 1, 1 << 32, (1 << 32) + 1, 1 << 63, u64::MAX - 1, u64::MAX];
+    for count in small.into_iter().chain(large) {
         for held in [&[][..], &[shape(0, PROJECTIVE); 2], &[shape(0, FLAVORS[3]); 64], &[shape(1, VANILLA)]] {
             for patterns in [0, 1, 2, 3, 63, 64, 65, (count % 4096) as usize] {
                 let room = 6 + 5 * count.min(64) as usize + 8 * patterns;
