@@ -11,12 +11,12 @@ use lib.ListN.{length, getD, set, take, drop, replicate, length-map, length-appe
 use lib.Seq.{drop-at, length-take-le, set-append-left}
 use Rattle.masks.specs.declared.shape.Shape.{Shape}
 use Rattle.masks.specs.declared.outcome.Answer.{Answer}
-use Rattle.masks.specs.Outcome.{Outcome, Gives, laid, refusal, tooMany, unless, value, refusedValue, answerOf, nought}
+use Rattle.masks.specs.Outcome.{Outcome, Gives, laid, refusal, tooMany, unless, value, refusedValue, answerOf, nought, resultTests}
 use Rattle.masks.specs.Shape.{setDims}
 use Rattle.masks.proofs.ListLaws.{take-laid, front, front-length, front-step, front-all}
 use Rattle.masks.proofs.RefusalLaws.{taken, later-same, refused-later, unless-done, gives-refused, gives-done}
 use Rattle.masks.proofs.ShapeLaws.{resized-same, part-length, part-at}
-use Rattle.masks.proofs.ChangeLaws.{checks, not-refused}
+use Rattle.masks.proofs.ChangeLaws.{not-refused}
 use Rattle.product.proofs.ListLaws.{front-next, laid-over}
 use Rattle.arithmetic.specs.declared.outcome.Taken.{Taken}
 use Rattle.arithmetic.specs.Kept.{keptTests, kept, scalarOnly, Halves, GivesTaken}
@@ -42,7 +42,7 @@ refused-same (suc k) o p r before after z h g = g
 
 module _ (s : Shape) (a : List Float) (room : ℕ) where
   -- The tests are those of a change to its own dimensions.
-  pub kept-tests : refusal (checks (s .dims) (s .dims) (length a) room (2 ^ s .dims)) ≡ refusal (keptTests s a room)
+  pub kept-tests : refusal (resultTests (s .dims) (s .dims) (length a) room (2 ^ s .dims)) ≡ refusal (keptTests s a room)
   kept-tests = later-same (s .dims) _ _ (λ l. refused-later (tooMany (s .dims)) _ (le-ltb 9 (s .dims) l))
 
   pub kept-accepted : refusal (keptTests s a room) ≡ 0 → Accepted s a room

@@ -13,11 +13,11 @@ use Rattle.masks.specs.declared.flavor.Flavor.{Flavor}
 use Rattle.masks.specs.declared.flavor.Flavor.the-variants.{Vanilla, Projective, Cl}
 use Rattle.masks.specs.declared.shape.Shape.{Shape}
 use Rattle.masks.specs.declared.outcome.Answer.{Answer}
-use Rattle.masks.specs.Outcome.{Outcome, Gives, refusal, unless, value, refusedValue, laid}
-use Rattle.masks.specs.Shape.{promotes, conformed, conformedShape, conformTo, conform}
+use Rattle.masks.specs.Outcome.{Outcome, Gives, refusal, unless, value, refusedValue, laid, resultTests, pairTests}
+use Rattle.masks.specs.Shape.{promotes, conformed, conformedShape, conformTo, conform, bothTests}
 use Rattle.masks.proofs.ListLaws.{take-laid}
 use Rattle.masks.proofs.RefusalLaws.{taken, unless-done, unless-refused}
-use Rattle.masks.proofs.ChangeLaws.{Passed, passed, pairChecks, checks, passes, pairTests, conformed-none, not-refused}
+use Rattle.masks.proofs.ChangeLaws.{Passed, passed, passes, conformed-none, not-refused}
 use Rattle.masks.proofs.OrderLaws.{blades-le}
 use Rattle.masks.proofs.ShapeLaws.{resized-length, resized-same}
 use Rattle.product.specs.declared.mode.Mode.the-variants.{All}
@@ -74,7 +74,7 @@ module _ (s t : Shape) (a b : List Float) (room : ℕ) where
   refused-by-other l e = ap (λ (n : ℕ). refusal (pairTests (s .dims) (t .dims) n (length a) (length b) room)) (dims-by-other l e)
 
   -- Where an operator is not refused, conforming to outputs with room for the result is not.
-  other-passes : (roomRight : ℕ) → refusal (operatorTests s t a b room) ≡ 0 → isScalar b ≡ false → 2 ^ meetingDims s t ≤ roomRight → refusal (pairChecks (s .dims) (t .dims) (meetingDims s t) (length a) (length b) room roomRight) ≡ 0
+  other-passes : (roomRight : ℕ) → refusal (operatorTests s t a b room) ≡ 0 → isScalar b ≡ false → 2 ^ meetingDims s t ≤ roomRight → refusal (bothTests (s .dims) (t .dims) (meetingDims s t) (length a) (length b) room roomRight) ≡ 0
   other-passes roomRight z e h =
       second-accepted (s .dims) (t .dims) (meetingDims s t) (length a) (length b) room roomRight (sym (refused-by-other (operator-passed z .countedRight) e) ∙ z) h
 
@@ -108,7 +108,7 @@ module _ (s t : Shape) (a b : List Float) (room : ℕ) where
   unfolding conformTo
   conform-to-done n e p =
       rw (← e)
-      (unless-done refusedValue (refusal (checks (s .dims) n (length a) room (2 ^ n))) 0 _
+      (unless-done refusedValue (refusal (resultTests (s .dims) n (length a) room (2 ^ n))) 0 _
       (sym (passes (s .dims) n (length a) room (2 ^ n) (record { small = p .small; result = p .result; counted = p .counted; roomy = p .roomy }))) refl)
 
   -- What `*` gives where it is not refused.

@@ -12,10 +12,10 @@ use lib.ListN.{length, getD}
 use Rattle.masks.specs.declared.flavor.Flavor.the-variants.{Vanilla, Projective}
 use Rattle.masks.specs.declared.shape.Shape.{Shape}
 use Rattle.masks.specs.declared.outcome.Answer.{Answer}
-use Rattle.masks.specs.Outcome.{Outcome, Gives, refusal, tooMany, wrongCount, noRoom, unless, value, refusedValue, shapeOf, answerOf}
+use Rattle.masks.specs.Outcome.{Outcome, Gives, refusal, tooMany, wrongCount, noRoom, unless, value, refusedValue, shapeOf, answerOf, pairTests as countTests}
 use Rattle.masks.specs.Shape.{promotes}
 use Rattle.masks.proofs.RefusalLaws.{later-same, refused-already, unless-done, gives-refused}
-use Rattle.masks.proofs.ChangeLaws.{pairTests as countTests, passed}
+use Rattle.masks.proofs.ChangeLaws.{passed}
 use Rattle.arithmetic.specs.declared.scalar.Complex.{Complex}
 use Rattle.arithmetic.specs.declared.scalar.ScalarTest.{ScalarTest}
 use Rattle.arithmetic.specs.declared.scalar.ScalarTest.the-variants.{Scalar, Planar, Neither}

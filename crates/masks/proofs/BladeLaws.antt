@@ -11,11 +11,11 @@ use lib.Dec.{ltb}
 use lib.Ieee.{Float, nan}
 use lib.ListN.{length, set, take, drop, length-set}
 use lib.Seq.{set-append-left, getD-set-same}
-use Rattle.masks.specs.Outcome.{Test, refusal, tooMany, wrongCount, noRoom, refusedValue, value, laid, refusedReal}
+use Rattle.masks.specs.Outcome.{Test, refusal, tooMany, wrongCount, noRoom, valueTests, refusedValue, value, laid, refusedReal}
 use Rattle.masks.specs.declared.shape.Shape.{Shape}
 use Rattle.masks.specs.Order.{place}
 use Rattle.masks.specs.Shape.{coef, withDims, resized}
-use Rattle.masks.specs.Blade.{getBlade, bladeDims, withBlade, setBlade, gradeRefusal}
+use Rattle.masks.specs.Blade.{getBlade, bladeDims, withBlade, setBladeTests, setBlade, gradeRefusal}
 use Rattle.masks.proofs.ListLaws.{split}
 use Rattle.masks.proofs.OrderLaws.{place-lt}
 use Rattle.masks.proofs.RefusalLaws.{past, refused-later, unless-done}
@@ -93,19 +93,14 @@ blade-next d m x a h l =
     let e : 9 - d ≡ suc (9 - (d + 1)) = omega arith in
     rw (e, le-ltb m (2 ^ d) l)
 
--- the tests of setting a blade
-abbrev pub bladeChecks : ℕ → ℕ → ℕ → ℕ → List Test
-bladeChecks d m count room =
-    tooMany d ∷ record { fails = not (ltb m 512); number = 1 } ∷ wrongCount count d ∷ noRoom room (2 ^ (bladeDims (9 - d) d m)) ∷ []
-
--- what a caller may rest on where they do not fail
+-- what a caller may rest on where setting a blade is not refused
 pub record Placed (d m count room : ℕ) : Type 0 where
   pub small : d ≤ 9
   pub low : m < 512
   pub counted : count ≡ 2 ^ d
   pub roomy : 2 ^ (bladeDims (9 - d) d m) ≤ room
 
-pub placed : (d m count room : ℕ) → refusal (bladeChecks d m count room) ≡ 0 → Placed d m count room
+pub placed : (d m count room : ℕ) → refusal (setBladeTests d m count room) ≡ 0 → Placed d m count room
 placed d m count room e =
     let p = past (tooMany d) _ (λ q. omega arith) e in
     let q = past (record { fails = not (ltb m 512); number = 1 }) _ (λ q. omega arith) (p .1) in
@@ -118,7 +113,7 @@ placed d m count room e =
       roomy = ltb-false _ _ (s .0);
     }
 
-pub accepted : (d m count room : ℕ) → Placed d m count room → refusal (bladeChecks d m count room) ≡ 0
+pub accepted : (d m count room : ℕ) → Placed d m count room → refusal (setBladeTests d m count room) ≡ 0
 unfolding refusal
 accepted d m count room p =
     simp (le-ltb 9 d (p .small), lt-ltb m 512 (p .low), eq-eqb count (2 ^ d) (p .counted), le-ltb room (2 ^ (bladeDims (9 - d) d m)) (p .roomy))
@@ -136,12 +131,12 @@ grown d m room a p l =
 
 pub set-blade-placed : (s : Shape) (m : ℕ) (x : Float) (a : List Float) (room : ℕ) → setBlade s m x a room .number ≡ 0 → Placed (s .dims) m (length a) room
 unfolding setBlade
-set-blade-placed s m x a room e = placed (s .dims) m (length a) room (not-refused (refusal (bladeChecks (s .dims) m (length a) room)) _ e .0)
+set-blade-placed s m x a room e = placed (s .dims) m (length a) room (not-refused (refusal (setBladeTests (s .dims) m (length a) room)) _ e .0)
 
 pub set-blade-done : (s : Shape) (m : ℕ) (x : Float) (a : List Float) (room : ℕ) → Placed (s .dims) m (length a) room → setBlade s m x a room ≡ value (withDims s (bladeDims (9 - s .dims) (s .dims) m)) (withBlade (9 - s .dims) (s .dims) m x a)
 unfolding setBlade
 set-blade-done s m x a room p =
-    unless-done refusedValue (refusal (bladeChecks (s .dims) m (length a) room)) 0 _ (sym (accepted (s .dims) m (length a) room p)) refl
+    unless-done refusedValue (refusal (setBladeTests (s .dims) m (length a) room)) 0 _ (sym (accepted (s .dims) m (length a) room p)) refl
 
 pub blade-grown : (s : Shape) (m : ℕ) (x : Float) (a : List Float) (room : ℕ) → Placed (s .dims) m (length a) room → 2 ^ (s .dims) ≤ m → setBlade (withDims s (s .dims + 1)) m x (resized (s .dims) (s .dims + 1) a) room ≡ setBlade s m x a room
 blade-grown s m x a room p l =
@@ -181,7 +176,7 @@ blade-got d m x a l h e =
 pub get-blade-done : (s : Shape) (m : ℕ) (a : List Float) → Valued (s .dims) (length a) → getBlade s m a ≡ record { number = 0; value = coef (s .dims) a m }
 unfolding getBlade refusal
 get-blade-done s m a v =
-    unless-done refusedReal (refusal (tooMany (s .dims) ∷ wrongCount (length a) (s .dims) ∷ [])) 0 _ (sym (value-passes (s .dims) (length a) [] v)) refl
+    unless-done refusedReal (refusal (valueTests (s .dims) (length a))) 0 _ (sym (value-passes (s .dims) (length a) [] v)) refl
 
 -- after an accepted call the mask has the number that was set
 pub get-set : (s : Shape) (m : ℕ) (x : Float) (a : List Float) (room : ℕ) → setBlade s m x a room .number ≡ 0 → getBlade (setBlade s m x a room .shape) m (setBlade s m x a room .coefs) ≡ record { number = 0; value = x }
@@ -195,7 +190,7 @@ get-set s m x a room e =
 -- ---- one grade
 
 -- the grade is tested after the value
-pub grade-later : (s : Shape) (g : ℕ) (a : List Float) → refusal (tooMany (s .dims) ∷ wrongCount (length a) (s .dims) ∷ []) ≡ 0 → gradeRefusal s g a ≡ cond (ltb (s .dims) g) 4 0
+pub grade-later : (s : Shape) (g : ℕ) (a : List Float) → refusal (valueTests (s .dims) (length a)) ≡ 0 → gradeRefusal s g a ≡ cond (ltb (s .dims) g) 4 0
 unfolding gradeRefusal refusal
 grade-later s g a e =
     value-passes (s .dims) (length a) (record { fails = ltb (s .dims) g; number = 4 } ∷ []) (valued (s .dims) (length a) [] e .0)

@@ -20,7 +20,7 @@ use Rattle.masks.specs.declared.build.Packing.{Packing}
 use Rattle.masks.specs.declared.build.Packing.the-variants.{Full, Half, Grade, Nothing}
 use Rattle.masks.specs.Order.{grade, gradesBelow, order, size, start}
 use Rattle.masks.specs.Outcome.{refusal, tooMany, noRoom, value, refusedValue, shapeOf, nought}
-use Rattle.masks.specs.Build.{padded, atGrade, builtRefusal, oneGrade, n1Blades, firstGrade, sideStart, sideEnd, packing, unpacked, ofParity, spread, packed, bladesOfSide}
+use Rattle.masks.specs.Build.{padded, atGrade, builtTests, oneGrade, n1Tests, n1Blades, firstGrade, sideStart, sideEnd, packing, unpacked, ofParity, spread, packed, packedTests, bladesOfSide}
 use Rattle.masks.specs.Unpack.{choose}
 use Rattle.masks.proofs.ListLaws.{getD-past}
 use Rattle.masks.proofs.OrderLaws.{length-grade, length-order, grade-at, size-zero, start-all, size-above, part-fits}
@@ -385,17 +385,17 @@ module _ (d n : ℕ) (f : n ≡ 2 ^ d → ⊥) (h : 2 * n ≡ 2 ^ d → ⊥) whe
 -- ---- refusals
 
 module _ (d room : ℕ) where
-  pub built-wide : 9 < d → builtRefusal d room ≡ 1
+  pub built-wide : 9 < d → refusal (builtTests d room) ≡ 1
   built-wide h = refused-first (tooMany d) _ (lt-ltb 9 d h)
 
-  pub built-short : d ≤ 9 → room < 2 ^ d → builtRefusal d room ≡ 3
+  pub built-short : d ≤ 9 → room < 2 ^ d → refusal (builtTests d room) ≡ 3
   built-short h l = refused-later (tooMany d) _ (le-ltb 9 d h) ∙ refused-first (noRoom room (2 ^ d)) _ (lt-ltb _ _ l)
 
-  pub built-done : d ≤ 9 → 2 ^ d ≤ room → builtRefusal d room ≡ 0
+  pub built-done : d ≤ 9 → 2 ^ d ≤ room → refusal (builtTests d room) ≡ 0
   unfolding refusal
   built-done h l = rw (le-ltb 9 d h, le-ltb room (2 ^ d) l)
 
-pub built-taken : (d room : ℕ) → builtRefusal d room ≡ 0 → (d ≤ 9) × (2 ^ d ≤ room)
+pub built-taken : (d room : ℕ) → refusal (builtTests d room) ≡ 0 → (d ≤ 9) × (2 ^ d ≤ room)
 built-taken d room e =
     let p = past (tooMany d) _ (λ q. omega arith) e in
     let q = past (noRoom room (2 ^ d)) _ (λ q. omega arith) (p .1) in
@@ -403,32 +403,28 @@ built-taken d room e =
 
 -- the numbers of the grade below the last are at least 2
 module _ (n room : ℕ) where
-  pub few : n < 2 → refusal (tooMany n ∷ record { fails = ltb n 2; number = 2 } ∷ noRoom room (2 ^ n) ∷ []) ≡ 2
+  pub few : n < 2 → refusal (n1Tests n room) ≡ 2
   unfolding refusal
   few l = rw (le-ltb 9 n (omega arith), lt-ltb n 2 l)
 
-  pub enough : 2 ≤ n → builtRefusal n room ≡ refusal (tooMany n ∷ record { fails = ltb n 2; number = 2 } ∷ noRoom room (2 ^ n) ∷ [])
+  pub enough : 2 ≤ n → refusal (builtTests n room) ≡ refusal (n1Tests n room)
   unfolding refusal
   enough l = rw (le-ltb n 2 l)
 
--- what is refused of blades that are packed by p
-abbrev pub packRefusal : ℕ → Packing → ℕ → ℕ
-packRefusal d p room = refusal (tooMany d ∷ record { fails = unpacked p; number = 2 } ∷ noRoom room (2 ^ d) ∷ [])
-
 module _ (d : ℕ) (p : Packing) (room : ℕ) where
-  pub pack-wide : 9 < d → packRefusal d p room ≡ 1
+  pub pack-wide : 9 < d → refusal (packedTests d p room) ≡ 1
   pack-wide h = refused-first (tooMany d) _ (lt-ltb 9 d h)
 
   module _ (h : d ≤ 9) where
-    pub pack-none : unpacked p ≡ true → packRefusal d p room ≡ 2
+    pub pack-none : unpacked p ≡ true → refusal (packedTests d p room) ≡ 2
     unfolding refusal
     pack-none e = rw (le-ltb 9 d h, e)
 
-    pub pack-short : unpacked p ≡ false → room < 2 ^ d → packRefusal d p room ≡ 3
+    pub pack-short : unpacked p ≡ false → room < 2 ^ d → refusal (packedTests d p room) ≡ 3
     unfolding refusal
     pack-short e l = rw (le-ltb 9 d h, e, lt-ltb room (2 ^ d) l)
 
-    pub pack-done : unpacked p ≡ false → 2 ^ d ≤ room → packRefusal d p room ≡ 0
+    pub pack-done : unpacked p ≡ false → 2 ^ d ≤ room → refusal (packedTests d p room) ≡ 0
     unfolding refusal
     pack-done e l = rw (le-ltb 9 d h, e, le-ltb room (2 ^ d) l)
 

@@ -12,8 +12,8 @@ use lib.ListN.{length, take}
 use Rattle.masks.specs.declared.flavor.Flavor.{Flavor}
 use Rattle.masks.specs.declared.flavor.Flavor.the-variants.{Vanilla, Projective, Cl}
 use Rattle.masks.specs.declared.shape.Shape.{Shape}
-use Rattle.masks.specs.Outcome.{Test, refusal, tooMany, wrongCount, noRoom, unless, laid, Outcome, shapeOf, refusedValue, value, Pair, refusedPair}
-use Rattle.masks.specs.Shape.{withDims, resized, setDims, promotes, promoted, setFlavor, conformed, promotedFlavor, conformedShape, conform}
+use Rattle.masks.specs.Outcome.{refusal, tooMany, wrongCount, noRoom, resultTests, pairTests, unless, laid, Outcome, shapeOf, refusedValue, value, Pair, refusedPair}
+use Rattle.masks.specs.Shape.{withDims, resized, setDims, promotes, promoted, setFlavor, conformed, promotedFlavor, conformedShape, bothTests, conform}
 use Rattle.masks.proofs.ListLaws.{take-laid}
 use Rattle.masks.proofs.RefusalLaws.{past, Taken, taken, later-same, needed-same, unless-done}
 use Rattle.masks.proofs.ShapeLaws.{one, resized-length, resized-same, resized-back, promoted-length}
@@ -57,35 +57,21 @@ pub flavor-one : (up : ℕ) (f : Flavor) → (up ≡ 0 → ⊥) → Projective �
 flavor-one zero f h = absurd (h refl)
 flavor-one (suc up) f h = refl
 
--- ---- the tests of a change of shape
+-- ---- the tests of a call on one value or on two
 
--- of one value of d dimensions, changed to n
-abbrev pub checks : ℕ → ℕ → ℕ → ℕ → ℕ → List Test
-checks d n count room needed = tooMany d ∷ tooMany n ∷ wrongCount count d ∷ noRoom room needed ∷ []
-
-pub passes : (d n count room needed : ℕ) → Taken d n count room needed → refusal (checks d n count room needed) ≡ 0
+pub passes : (d n count room needed : ℕ) → Taken d n count room needed → refusal (resultTests d n count room needed) ≡ 0
 unfolding refusal
 passes d n count room needed t =
     simp (le-ltb 9 d (t .small), le-ltb 9 n (t .result), eq-eqb count (2 ^ d) (t .counted), le-ltb room needed (t .roomy))
 
 -- the code's number is the definition's
-pub checked : (k d n count room needed : ℕ) → k ≡ refusal (checks d n count room needed) → (n ≤ 9 → needed ≡ 2 ^ n) → k ≡ refusal (checks d n count room (2 ^ n))
+pub checked : (k d n count room needed : ℕ) → k ≡ refusal (resultTests d n count room needed) → (n ≤ 9 → needed ≡ 2 ^ n) → k ≡ refusal (resultTests d n count room (2 ^ n))
 checked k d n count room needed e b = e ∙ needed-same d n count room needed (2 ^ n) b
 
 -- Where the given dimensions are refused, the resulting ones do not count.
-pub checks-same : (d n m count room : ℕ) → (d ≤ 9 → n ≡ m) → refusal (checks d n count room (2 ^ n)) ≡ refusal (checks d m count room (2 ^ m))
-checks-same d n m count room h =
+pub result-tests-same : (d n m count room : ℕ) → (d ≤ 9 → n ≡ m) → refusal (resultTests d n count room (2 ^ n)) ≡ refusal (resultTests d m count room (2 ^ m))
+result-tests-same d n m count room h =
     later-same d _ _ (λ l. ap (λ (k : ℕ). refusal (tooMany k ∷ wrongCount count d ∷ noRoom room (2 ^ k) ∷ [])) (h l))
-
--- of two, of d and e dimensions, changed to n
-abbrev pub pairChecks : ℕ → ℕ → ℕ → ℕ → ℕ → ℕ → ℕ → List Test
-pairChecks d e n count countRight room roomRight =
-    tooMany d ∷ tooMany e ∷ tooMany n ∷ wrongCount count d ∷ wrongCount countRight e ∷ noRoom room (2 ^ n) ∷ noRoom roomRight (2 ^ n) ∷ []
-
--- of two values with one output
-abbrev pub pairTests : ℕ → ℕ → ℕ → ℕ → ℕ → ℕ → List Test
-pairTests d e n count countRight room =
-    tooMany d ∷ tooMany e ∷ tooMany n ∷ wrongCount count d ∷ wrongCount countRight e ∷ noRoom room (2 ^ n) ∷ []
 
 -- what a caller may rest on where a call on two values is not refused
 pub record Passed (d e n count countRight room : ℕ) : Type 0 where
@@ -114,15 +100,15 @@ passed d e n count countRight room z =
     }
 
 -- where a pair is not refused with one output, the second output's room decides
-pub second-room : (d e n count countRight room roomRight : ℕ) → refusal (pairTests d e n count countRight room) ≡ 0 → refusal (pairChecks d e n count countRight room roomRight) ≡ refusal (noRoom roomRight (2 ^ n) ∷ [])
+pub second-room : (d e n count countRight room roomRight : ℕ) → refusal (pairTests d e n count countRight room) ≡ 0 → refusal (bothTests d e n count countRight room roomRight) ≡ refusal (noRoom roomRight (2 ^ n) ∷ [])
 unfolding refusal
 second-room d e n count countRight room roomRight z =
     let p = passed d e n count countRight room z in
     rw (le-ltb 9 d (p .small), le-ltb 9 e (p .smallRight), le-ltb 9 n (p .result), eq-eqb count (2 ^ d) (p .counted), eq-eqb countRight (2 ^ e) (p .countedRight), le-ltb room (2 ^ n) (p .roomy))
 
 -- Where the given dimensions of either are refused, the resulting ones do not count.
-pub pair-checks-same : (d e n m count countRight room roomRight : ℕ) → (d ≤ 9 → e ≤ 9 → n ≡ m) → refusal (pairChecks d e n count countRight room roomRight) ≡ refusal (pairChecks d e m count countRight room roomRight)
-pair-checks-same d e n m count countRight room roomRight h =
+pub both-tests-same : (d e n m count countRight room roomRight : ℕ) → (d ≤ 9 → e ≤ 9 → n ≡ m) → refusal (bothTests d e n count countRight room roomRight) ≡ refusal (bothTests d e m count countRight room roomRight)
+both-tests-same d e n m count countRight room roomRight h =
     later-same d _ _
     (λ l.
     later-same e _ _
@@ -138,7 +124,7 @@ pub record Paired (d e n count countRight room roomRight : ℕ) : Type 0 where
   pub roomy : 2 ^ n ≤ room
   pub roomyRight : 2 ^ n ≤ roomRight
 
-pub paired : (d e n count countRight room roomRight : ℕ) → refusal (pairChecks d e n count countRight room roomRight) ≡ 0 → Paired d e n count countRight room roomRight
+pub paired : (d e n count countRight room roomRight : ℕ) → refusal (bothTests d e n count countRight room roomRight) ≡ 0 → Paired d e n count countRight room roomRight
 paired d e n count countRight room roomRight z =
     let p = past (tooMany d) _ (λ q. omega arith) z in
     let q = past (tooMany e) _ (λ q. omega arith) (p .1) in
@@ -169,12 +155,12 @@ not-refused (suc k) o e = absurd (omega arith)
 pub set-dims-done : (s : Shape) (n : ℕ) (a : List Float) (room : ℕ) → Taken (s .dims) n (length a) room (2 ^ n) → setDims s n a room ≡ value (withDims s n) (resized (s .dims) n a)
 unfolding setDims
 set-dims-done s n a room t =
-    unless-done refusedValue (refusal (checks (s .dims) n (length a) room (2 ^ n))) 0 _ (sym (passes (s .dims) n (length a) room (2 ^ n) t)) refl
+    unless-done refusedValue (refusal (resultTests (s .dims) n (length a) room (2 ^ n))) 0 _ (sym (passes (s .dims) n (length a) room (2 ^ n) t)) refl
 
 pub set-dims-taken : (s : Shape) (n : ℕ) (a : List Float) (room : ℕ) → setDims s n a room .number ≡ 0 → Taken (s .dims) n (length a) room (2 ^ n)
 unfolding setDims
 set-dims-taken s n a room e =
-    taken (s .dims) n (length a) room (2 ^ n) (not-refused (refusal (checks (s .dims) n (length a) room (2 ^ n))) _ e .0)
+    taken (s .dims) n (length a) room (2 ^ n) (not-refused (refusal (resultTests (s .dims) n (length a) room (2 ^ n))) _ e .0)
 
 -- what an accepted call grows, a call with room for the old numbers shrinks to the value that it was
 pub set-dims-back : (s : Shape) (n : ℕ) (a : List Float) (room back : ℕ) → s .dims ≤ n → setDims s n a room .number ≡ 0 → length a ≤ back → setDims (setDims s n a room .shape) (s .dims) (setDims s n a room .coefs) back ≡ value s a

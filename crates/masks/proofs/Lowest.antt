@@ -6,7 +6,14 @@ use Prim.Native.Nat.{ℕ, zero, suc, _≤_, _<_}
 use native.Mathlib.Nat.{le-refl, le-trans, le-of-suc-le-suc, not-suc-le-zero}
 use lib.Dec.{T, leb, leb→le}
 use lib.ListN.{length, getD}
-use Rattle.masks.specs.Outcome.{Test, refusal, tooMany, wrongCount, noRoom}
+use Rattle.masks.specs.declared.build.Packing.{Packing}
+use Rattle.masks.specs.declared.flavor.Flavor.{Flavor}
+use Rattle.masks.specs.Outcome.{Test, refusal, valueTests, resultTests, pairTests}
+use Rattle.masks.specs.Order.{orderTests}
+use Rattle.masks.specs.Shape.{bothTests}
+use Rattle.masks.specs.Blade.{setBladeTests, gradeTests}
+use Rattle.masks.specs.Build.{builtTests, n1Tests, packedTests}
+use Rattle.masks.specs.Text.{readTests, writeTests}
 use Rattle.masks.proofs.Computed.{both}
 
 -- The numbers of a list of tests rise from n on.
@@ -34,18 +41,40 @@ refused-lowest n (t ∷ ts) d (suc k) r h e =
     go true l m = l
     go false l m = m
 
--- The lists of the calls: on one value, on two, on a value that is only read, and of building; 2 or 4 may stand where a call has a test of its own.
-pub one-rises : (d n count room needed : ℕ) → T (rises 1 (tooMany d ∷ tooMany n ∷ wrongCount count d ∷ noRoom room needed ∷ []))
-one-rises d n count room needed = tt
+-- The lists that the definitions cite: of dimensions alone, of a value that is read, of one value and of two with a result.
+pub order-rises : (d : ℕ) → T (rises 1 (orderTests d))
+order-rises d = tt
 
-pub two-rise : (d e n count countRight room roomRight needed : ℕ) → T (rises 1 (tooMany d ∷ tooMany e ∷ tooMany n ∷ wrongCount count d ∷ wrongCount countRight e ∷ noRoom room needed ∷ noRoom roomRight needed ∷ []))
-two-rise d e n count countRight room roomRight needed = tt
+pub value-rises : (d count : ℕ) → T (rises 1 (valueTests d count))
+value-rises d count = tt
 
-pub blade-rises : (d count room needed : ℕ) (outside : Bool) → T (rises 1 (tooMany d ∷ record { fails = outside; number = 1 } ∷ wrongCount count d ∷ noRoom room needed ∷ []))
-blade-rises d count room needed outside = tt
+pub result-rises : (d n count room needed : ℕ) → T (rises 1 (resultTests d n count room needed))
+result-rises d n count room needed = tt
 
-pub grade-rises : (d count : ℕ) (above : Bool) → T (rises 1 (tooMany d ∷ wrongCount count d ∷ record { fails = above; number = 4 } ∷ []))
-grade-rises d count above = tt
+pub pair-rises : (d e n count countRight room : ℕ) → T (rises 1 (pairTests d e n count countRight room))
+pair-rises d e n count countRight room = tt
 
-pub built-rises : (d room needed : ℕ) (unfit : Bool) → T (rises 1 (tooMany d ∷ record { fails = unfit; number = 2 } ∷ noRoom room needed ∷ []))
-built-rises d room needed unfit = tt
+pub both-rises : (d e n count countRight room roomRight : ℕ) → T (rises 1 (bothTests d e n count countRight room roomRight))
+both-rises d e n count countRight room roomRight = tt
+
+-- Of single blades and grades, of building, and of a flavor's text.
+pub set-blade-rises : (d m count room : ℕ) → T (rises 1 (setBladeTests d m count room))
+set-blade-rises d m count room = tt
+
+pub grade-rises : (d g count : ℕ) → T (rises 1 (gradeTests d g count))
+grade-rises d g count = tt
+
+pub built-rises : (d room : ℕ) → T (rises 1 (builtTests d room))
+built-rises d room = tt
+
+pub n1-rises : (n room : ℕ) → T (rises 1 (n1Tests n room))
+n1-rises n room = tt
+
+pub packed-rises : (d : ℕ) (p : Packing) (room : ℕ) → T (rises 1 (packedTests d p room))
+packed-rises d p room = tt
+
+pub read-rises : (t : List ℕ) → T (rises 1 (readTests t))
+read-rises t = tt
+
+pub write-rises : (f : Flavor) (room : ℕ) → T (rises 1 (writeTests f room))
+write-rises f room = tt

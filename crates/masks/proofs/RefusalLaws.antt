@@ -9,7 +9,7 @@ use borrow.Author.Tests.{ltb-false, eqb-true, not-false}
 use Rattle.masks.specs.declared.outcome.Answer.{Answer}
 use Rattle.masks.specs.declared.outcome.Answers.{Answers}
 use Rattle.masks.specs.declared.outcome.Count.{Count}
-use Rattle.masks.specs.Outcome.{Test, refusal, tooMany, wrongCount, noRoom, unless, laid, Outcome, refusedValue, answerOf, Gives, Pair, refusedPair, answersOf, GivesBoth, Written, refusedList, countOf, Writes}
+use Rattle.masks.specs.Outcome.{Test, refusal, tooMany, wrongCount, noRoom, resultTests, unless, laid, Outcome, refusedValue, answerOf, Gives, Pair, refusedPair, answersOf, GivesBoth, Written, refusedList, countOf, Writes}
 
 -- ---- lists of tests
 
@@ -29,7 +29,7 @@ pub record Taken (d n count room needed : ℕ) : Type 0 where
   pub counted : count ≡ 2 ^ d
   pub roomy : needed ≤ room
 
-pub taken : (d n count room needed : ℕ) → refusal (tooMany d ∷ tooMany n ∷ wrongCount count d ∷ noRoom room needed ∷ []) ≡ 0 → Taken d n count room needed
+pub taken : (d n count room needed : ℕ) → refusal (resultTests d n count room needed) ≡ 0 → Taken d n count room needed
 taken d n count room needed e =
     let p = past (tooMany d) _ (λ q. omega arith) e in
     let q = past (tooMany n) _ (λ q. omega arith) (p .1) in
@@ -67,7 +67,7 @@ pub later-same : (d : ℕ) (ts us : List Test) → (d ≤ 9 → refusal ts ≡ r
 later-same d ts us h = rest-same (tooMany d ∷ []) ts us (λ e. h (ltb-false 9 d (past (tooMany d) [] (λ q. omega arith) e .0)))
 
 -- where the dimensions are refused, the numbers that are needed do not count
-pub needed-same : (d n count room needed needed′ : ℕ) → (n ≤ 9 → needed ≡ needed′) → refusal (tooMany d ∷ tooMany n ∷ wrongCount count d ∷ noRoom room needed ∷ []) ≡ refusal (tooMany d ∷ tooMany n ∷ wrongCount count d ∷ noRoom room needed′ ∷ [])
+pub needed-same : (d n count room needed needed′ : ℕ) → (n ≤ 9 → needed ≡ needed′) → refusal (resultTests d n count room needed) ≡ refusal (resultTests d n count room needed′)
 needed-same d n count room needed needed′ h =
     later-same d _ _ (λ l. later-same n _ _ (λ m. ap (λ (k : ℕ). refusal (wrongCount count d ∷ noRoom room k ∷ [])) (h m)))
 

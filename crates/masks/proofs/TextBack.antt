@@ -9,14 +9,15 @@ use lib.Dec.{leb}
 use lib.ListN.{length, length-reverse}
 use lib.Seq.{append-snoc}
 use borrow.Author.Tests.{leb-true, le-leb, lt-leb, ne-eqb}
+use Rattle.masks.specs.inner.Text.{specOf, readCl}
 use Rattle.masks.specs.declared.flavor.Flavor.{Flavor}
 use Rattle.masks.specs.declared.flavor.Flavor.the-variants.{Vanilla, Projective, Cl}
 use Rattle.masks.specs.declared.text.Octet.{Octet}
 use Rattle.masks.specs.declared.text.Octet.the-variants.{Is, Missing}
-use Rattle.masks.specs.Outcome.{refusal, noRoom, unless, Written, refusedList, listed}
-use Rattle.masks.specs.Text.{blank, separator, inPart, decimalDigit, takeWhile, dropWhile, every, same, decimalValue, unsigned, octetOf, octet, orZero, part, afterPart, specOf, readAs, refusedRead, decimal, spaced, textOf, trimmed, readCl, readFlavor, writeFlavor, vga}
+use Rattle.masks.specs.Outcome.{refusal, unless, Written, refusedList, listed}
+use Rattle.masks.specs.Text.{blank, separator, inPart, decimalDigit, takeWhile, dropWhile, every, same, decimalValue, unsigned, octetOf, octet, orZero, part, afterPart, readAs, refusedRead, decimal, spaced, textOf, trimmed, isSpec, clOf, readFlavor, writeTests, writeFlavor, vga}
 use Rattle.masks.proofs.ListLaws.{split}
-use Rattle.masks.proofs.TextLaws.{decimal-long, decimal-one, decimal-three, decimal-two, digit-in, octet-is, one-length, spec-read, text-one, text-three, text-two, three-length, two-length}
+use Rattle.masks.proofs.TextLaws.{readText, read-steps, decimal-long, decimal-one, decimal-three, decimal-two, digit-in, octet-is, one-length, spec-read, text-one, text-three, text-two, three-length, two-length}
 
 -- ---- words of digits
 
@@ -171,8 +172,8 @@ InRange Projective = Unit {0}
 InRange (Cl p n z) = (p < 256) × (n < 256) × (z < 256)
 
 read-letters : (w : List ℕ) → every ascii w ≡ true → readFlavor (67 ∷ 108 ∷ w) ≡ specOf (trimmed w)
-unfolding readFlavor readCl every same
-read-letters w e = rw e
+unfolding readText readCl every same
+read-letters w e = read-steps (67 ∷ 108 ∷ w) ∙ (rw e)
 
 -- the spec of a text whose parts are known
 spec-parts : (t r s u : List ℕ) (p : ℕ) (a b : Octet) → octet (part t) ≡ Is p → octet (part r) ≡ a → octet (part s) ≡ b → afterPart t ≡ r → afterPart r ≡ s → afterPart s ≡ u → part u ≡ [] → specOf t ≡ readAs (Cl p (orZero a) (orZero b))
@@ -274,7 +275,7 @@ read-back-cl p n (suc z) a b c =
 
 -- the text of a flavor is read as the flavor
 pub text-read-back : (f : Flavor) → InRange f → readFlavor (textOf f) ≡ readAs f
-unfolding textOf readFlavor every same
+unfolding textOf readFlavor refusal unless every same
 text-read-back Vanilla r = refl
 text-read-back Projective r = refl
 text-read-back (Cl p n z) r = read-back-cl p n z (r .0) (r .1) (r .2)
@@ -282,7 +283,7 @@ text-read-back (Cl p n z) r = read-back-cl p n z (r .0) (r .1) (r .2)
 -- and so is what is written
 pub written-read : (f : Flavor) (room : ℕ) → InRange f → (writeFlavor f room) .number ≡ 0 → readFlavor ((writeFlavor f room) .items) ≡ readAs f
 unfolding writeFlavor unless
-written-read f room r e = rw (written (refusal (noRoom room (length (textOf f)) ∷ [])) (listed (textOf f)) e) (text-read-back f r)
+written-read f room r e = rw (written (refusal (writeTests f room)) (listed (textOf f)) e) (text-read-back f r)
   where
     written : (k : ℕ) (o : Written ℕ) → (unless refusedList k o) .number ≡ 0 → unless refusedList k o ≡ o
     written zero o e = refl
@@ -313,49 +314,49 @@ cl t = 67 ∷ 108 ∷ t
 
 -- Cl 3 x
 pub worked-word : readFlavor (cl (32 ∷ 51 ∷ 32 ∷ 120 ∷ [])) ≡ readAs (Cl 3 0 0)
-unfolding readFlavor readCl specOf trimmed part afterPart takeWhile dropWhile every same octet octetOf unsigned decimalValue
+unfolding readFlavor refusal unless isSpec clOf trimmed part afterPart takeWhile dropWhile every same octet octetOf unsigned decimalValue
 worked-word = refl
 
 -- Cl
 pub worked-none : readFlavor (cl []) ≡ refusedRead 8
-unfolding readFlavor readCl specOf trimmed part afterPart takeWhile dropWhile every same octet octetOf unsigned decimalValue
+unfolding readFlavor refusal unless isSpec clOf trimmed part afterPart takeWhile dropWhile every same octet octetOf unsigned decimalValue
 worked-none = refl
 
 pub worked-empty : readFlavor [] ≡ refusedRead 7
-unfolding readFlavor readCl every same
+unfolding readFlavor refusal unless every same
 worked-empty = refl
 
 -- a newline inside is part of a word: Cl 3\n1, and Cl 3 1\n2
 pub worked-newline : (readFlavor (cl (32 ∷ 51 ∷ 10 ∷ 49 ∷ [])) ≡ refusedRead 8) × (readFlavor (cl (32 ∷ 51 ∷ 32 ∷ 49 ∷ 10 ∷ 50 ∷ [])) ≡ readAs (Cl 3 0 0))
-unfolding readFlavor readCl specOf trimmed part afterPart takeWhile dropWhile every same octet octetOf unsigned decimalValue
+unfolding readFlavor refusal unless isSpec clOf trimmed part afterPart takeWhile dropWhile every same octet octetOf unsigned decimalValue
 worked-newline = (refl, refl)
 
 -- a text is trimmed of bytes 9 to 13 and 32, and not of 28: Cl, 11, 3, 12, and Cl, 3, 28
 pub worked-blank : (readFlavor (cl (11 ∷ 51 ∷ 12 ∷ [])) ≡ readAs (Cl 3 0 0)) × (readFlavor (cl (51 ∷ 28 ∷ [])) ≡ refusedRead 8)
-unfolding readFlavor readCl specOf trimmed part afterPart takeWhile dropWhile every same octet octetOf unsigned decimalValue
+unfolding readFlavor refusal unless isSpec clOf trimmed part afterPart takeWhile dropWhile every same octet octetOf unsigned decimalValue
 worked-blank = (refl, refl)
 
 -- a second part that is no u8 does not shift the third: Cl 3 256 1
 pub worked-large : readFlavor (cl (32 ∷ 51 ∷ 32 ∷ 50 ∷ 53 ∷ 54 ∷ 32 ∷ 49 ∷ [])) ≡ readAs (Cl 3 0 1)
-unfolding readFlavor readCl specOf trimmed part afterPart takeWhile dropWhile every same octet octetOf unsigned decimalValue
+unfolding readFlavor refusal unless isSpec clOf trimmed part afterPart takeWhile dropWhile every same octet octetOf unsigned decimalValue
 worked-large = refl
 
 -- a fourth part refuses whatever it is: Cl 3 1 1 x
 pub worked-four : readFlavor (cl (32 ∷ 51 ∷ 32 ∷ 49 ∷ 32 ∷ 49 ∷ 32 ∷ 120 ∷ [])) ≡ refusedRead 8
-unfolding readFlavor readCl specOf trimmed part afterPart takeWhile dropWhile every same octet octetOf unsigned decimalValue
+unfolding readFlavor refusal unless isSpec clOf trimmed part afterPart takeWhile dropWhile every same octet octetOf unsigned decimalValue
 worked-four = refl
 
 -- a + and zeros may lead, a second + or a - may not: Cl+0003, Cl++3, Cl-0
 pub worked-sign : (readFlavor (cl (43 ∷ 48 ∷ 48 ∷ 48 ∷ 51 ∷ [])) ≡ readAs (Cl 3 0 0)) × (readFlavor (cl (43 ∷ 43 ∷ 51 ∷ [])) ≡ refusedRead 8) × (readFlavor (cl (45 ∷ 48 ∷ [])) ≡ refusedRead 8)
-unfolding readFlavor readCl specOf trimmed part afterPart takeWhile dropWhile every same octet octetOf unsigned decimalValue
+unfolding readFlavor refusal unless isSpec clOf trimmed part afterPart takeWhile dropWhile every same octet octetOf unsigned decimalValue
 worked-sign = (refl, refl, refl)
 
 -- VGA is not trimmed: with a space after it, or before it, it is no flavor
 pub worked-untrimmed : (readFlavor (vga ++ (32 ∷ [])) ≡ refusedRead 7) × (readFlavor (32 ∷ vga) ≡ refusedRead 7)
-unfolding readFlavor readCl every same
+unfolding readFlavor refusal unless every same
 worked-untrimmed = (refl, refl)
 
 -- a byte above 127 refuses before all else: Cl 3 and 128
 pub worked-byte : readFlavor (cl (32 ∷ 51 ∷ 32 ∷ 128 ∷ [])) ≡ refusedRead 7
-unfolding readFlavor every
+unfolding readFlavor refusal unless every
 worked-byte = refl

@@ -1,17 +1,23 @@
 -- Laws of a flavor's text: the digits and parts that reading goes by, and what is written. Assumes nothing.
-use mathlib.Core.Path.{_≡_, refl, sym, ap, _∙_}
-use mathlib.Core.Bool.{Bool, true, false, _&&_, cond, and-false}
+use mathlib.Core.Path.{_≡_, refl, sym, ap, subst, _∙_}
+use mathlib.Core.Bool.{Bool, true, false, true≢false, not, _&&_, _||_, cond, and-false}
 use mathlib.Core.List.{List, [], _∷_, _++_}
 use Prim.Native.Nat.{ℕ, _+_, _-_, _*_, _/_, _%_, _≤_, _<_}
 use native.Mathlib.Numerals.{add-one}
 use native.Mathlib.Omega.{arith}
-use lib.Dec.{leb, ltb}
+use lib.Dec.{T, leb, ltb}
 use lib.ListN.{length, getD, set, drop, length-append}
 use lib.Seq.{drop-cons, sets}
 use borrow.Author.Tests.{le-leb, lt-leb, lt-ltb, le-ltb, eq-eqb, ne-eqb}
-use Rattle.masks.specs.declared.flavor.Flavor.the-variants.{Cl}
+use Rattle.masks.specs.declared.flavor.Flavor.{Flavor}
+use Rattle.masks.specs.declared.flavor.Flavor.the-variants.{Vanilla, Projective, Cl}
+use Rattle.masks.specs.declared.text.Octet.{Octet}
 use Rattle.masks.specs.declared.text.Octet.the-variants.{Is, Missing}
-use Rattle.masks.specs.Text.{decimalDigit, every, decimalValue, unsigned, octetOf, octet, orZero, part, afterPart, specOf, readAs, refusedRead, decimal, spaced, textOf}
+use Rattle.masks.specs.declared.text.Read.{Read}
+use Rattle.masks.specs.Outcome.{refusal, unless}
+use Rattle.masks.specs.inner.Text.{spec, specOf, readCl}
+use Rattle.masks.specs.Text.{decimalDigit, every, same, decimalValue, unsigned, octetOf, octet, isOctet, orZero, part, afterPart, readAs, refusedRead, vga, pga, beginsCl, specIn, isSpec, clOf, readFlavor, decimal, spaced, textOf}
+use Rattle.masks.proofs.Computed.{same-eq}
 use Rattle.masks.proofs.ListLaws.{sets-append}
 use Rattle.masks.proofs.ScanLaws.{drop-end, every-end, every-not, every-on, same-nil, same-not}
 
@@ -117,6 +123,53 @@ module _ (t : List ℕ) where
     pub spec-read : length (part (afterPart (afterPart (afterPart t)))) ≡ 0 → specOf t ≡ readAs (Cl p (orZero (octet (part (afterPart t)))) (orZero (octet (part (afterPart (afterPart t))))))
     unfolding specOf
     spec-read h = rw (e, same-nil (part (afterPart (afterPart (afterPart t)))) h)
+
+  -- a spec as its definition has it
+  pub spec-tested : specOf t ≡ cond (isSpec t) (readAs (clOf t)) (refusedRead 8)
+  unfolding specOf isSpec clOf
+  spec-tested = go (octet (part t))
+    where
+      go : (o : Octet) → spec o (afterPart t) ≡ cond (isOctet o && same (part (afterPart (afterPart (afterPart t)))) []) (readAs (Cl (orZero o) (orZero (octet (part (afterPart t)))) (orZero (octet (part (afterPart (afterPart t))))))) (refusedRead 8)
+      go Missing = refl
+      go (Is p) = refl
+
+-- ---- a text, read step by step
+
+-- the code's steps
+unfoldable pub readText : List ℕ → Read
+readText t =
+    cond (every (λ c. leb c 127) t)
+    (cond (same t vga) (readAs Vanilla) (cond (same t pga) (readAs Projective) (readCl t)))
+    (refusedRead 7)
+
+-- VGA and PGA do not begin with Cl
+vga-not-cl : (t : List ℕ) → same t vga ≡ true → beginsCl t ≡ false
+unfolding same
+vga-not-cl t e = let q : t ≡ vga = same-eq t vga (subst T (sym e) tt) in rw q
+
+pga-not-cl : (t : List ℕ) → same t pga ≡ true → beginsCl t ≡ false
+unfolding same
+pga-not-cl t e = let q : t ≡ pga = same-eq t pga (subst T (sym e) tt) in rw q
+
+-- the steps give what the two tests give
+steps-tested : (a v p b s : Bool) (f : Flavor) (x : Read) → (v ≡ true → b ≡ false) → (p ≡ true → b ≡ false) → x ≡ cond s (readAs f) (refusedRead 8) → unless refusedRead (cond (not (a && (v || p || b))) 7 (cond (b && not s) 8 0)) (readAs (cond v Vanilla (cond p Projective f))) ≡ cond a (cond v (readAs Vanilla) (cond p (readAs Projective) (cond b x (refusedRead 7)))) (refusedRead 7)
+unfolding unless
+steps-tested false v p b s f x h k e = refl
+steps-tested true true p true s f x h k e = absurd (true≢false (h refl))
+steps-tested true true p false s f x h k e = refl
+steps-tested true false true true s f x h k e = absurd (true≢false (k refl))
+steps-tested true false true false s f x h k e = refl
+steps-tested true false false true true f x h k e = sym e
+steps-tested true false false true false f x h k e = sym e
+steps-tested true false false false s f x h k e = refl
+
+pub read-steps : (t : List ℕ) → readFlavor t ≡ readText t
+unfolding readFlavor readText readCl refusal
+read-steps t =
+    steps-tested (every (λ c. leb c 127) t) (same t vga) (same t pga) (beginsCl t) (isSpec (specIn t)) (clOf (specIn t)) (specOf (specIn t)) (vga-not-cl t) (pga-not-cl t) (spec-tested (specIn t))
+
+pub by-steps : (r : Read) (t : List ℕ) → r ≡ readText t → r ≡ readFlavor t
+by-steps r t e = e ∙ sym (read-steps t)
 
 -- ---- what is written
 

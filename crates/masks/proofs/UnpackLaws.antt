@@ -19,12 +19,12 @@ use Rattle.masks.specs.declared.flavor.Flavor.{Flavor}
 use Rattle.masks.specs.declared.flavor.Flavor.the-variants.{Vanilla}
 use Rattle.masks.specs.declared.build.Packing.the-variants.{Grade}
 use Rattle.masks.specs.Order.{order, size, start, rank, place, held, masksOf, orderFor}
-use Rattle.masks.specs.Outcome.{Outcome, shapeOf, refusal, unless, laid, refusedList, listed, countOf, nought}
+use Rattle.masks.specs.Outcome.{Outcome, shapeOf, refusal, resultTests, unless, laid, refusedList, listed, countOf, nought}
 use Rattle.masks.specs.Flavor.{addedDims}
 use Rattle.masks.specs.Shape.{coef, moved}
 use Rattle.masks.specs.Blade.{getBlade, gradeRefusal, gradePart}
 use Rattle.masks.specs.Build.{padded, atGrade, oneGrade, vector, n1Blades, scalar, pseudoscalar, packing, ofParity, spread, bladesOfSide}
-use Rattle.masks.specs.Unpack.{choose, halfMasks, unpackRefusal, unpackAll, halfOf, unpackHalf, unpackOwnHalf, unpackVector}
+use Rattle.masks.specs.Unpack.{choose, halfMasks, unpackAll, halfOf, unpackHalf, unpackOwnHalf, unpackVector}
 use Rattle.masks.proofs.OrderLaws.{length-order, size-zero, grade-has, place-lt, order-place, order-at, blades-le, take-masks, built-masks}
 use Rattle.masks.proofs.RefusalLaws.{unless-done}
 use Rattle.masks.proofs.ShapeLaws.{coef-inside, coef-outside, moved-other, ordered}
@@ -166,7 +166,7 @@ vector-length d =
 -- ---- what a call that is not refused gives
 
 module _ (s : Shape) (a : List Float) (h : s .dims ≤ 9) (e : length a ≡ 2 ^ s .dims) where
-  accepted : (d room needed : ℕ) → d ≤ 9 → needed ≤ room → unpackRefusal (s .dims) d a room needed ≡ 0
+  accepted : (d room needed : ℕ) → d ≤ 9 → needed ≤ room → refusal (resultTests (s .dims) d (length a) room needed) ≡ 0
   accepted d room needed l m =
       passes (s .dims) d (length a) room needed (record { small = h; result = l; counted = e; roomy = m })
 

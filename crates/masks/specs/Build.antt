@@ -11,7 +11,7 @@ use Rattle.masks.specs.declared.flavor.Flavor.the-variants.{Vanilla}
 use Rattle.masks.specs.declared.build.Packing.{Packing}
 use Rattle.masks.specs.declared.build.Packing.the-variants.{Full, Half, Grade, Nothing}
 use Rattle.masks.specs.Order.{order, size, start}
-use Rattle.masks.specs.Outcome.{Outcome, refusal, tooMany, noRoom, unless, value, refusedValue, shapeOf, nought}
+use Rattle.masks.specs.Outcome.{Test, Outcome, refusal, tooMany, noRoom, unless, value, refusedValue, shapeOf, nought}
 use Rattle.masks.specs.Flavor.{addedDims}
 
 -- `padded first v n` has n numbers: those of v from the place `first` on, and +0 elsewhere.
@@ -22,23 +22,26 @@ padded first v n = replicate first nought ++ v ++ replicate (n - (first + length
 unfoldable pub atGrade : ℕ → ℕ → List Float → List Float
 atGrade d g v = padded (start d g) v (2 ^ d)
 
--- A value of d dimensions is built in an output of `room` numbers.
-abbrev pub builtRefusal : ℕ → ℕ → ℕ
-builtRefusal d room = refusal (tooMany d ∷ noRoom room (2 ^ d) ∷ [])
+-- The tests of building a value of d dimensions in an output of `room` numbers.
+abbrev pub builtTests : ℕ → ℕ → List Test
+builtTests d room = tooMany d ∷ noRoom room (2 ^ d) ∷ []
 
 -- `oneGrade n g v` is a value of n dimensions that has v at grade g.
 unfoldable pub oneGrade : ℕ → ℕ → List Float → Flavor → ℕ → Outcome
-oneGrade n g v f room = unless refusedValue (builtRefusal n room) (value (shapeOf n f) (atGrade n g v))
+oneGrade n g v f room = unless refusedValue (refusal (builtTests n room)) (value (shapeOf n f) (atGrade n g v))
 
 -- `vector` takes 0 to 9 numbers at grade 1; their count is the dimensions.
 unfoldable pub vector : List Float → Flavor → ℕ → Outcome
 vector v f room = oneGrade (length v) 1 v f room
 
--- `n1Blades` takes 2 to 9 numbers at grade d-1, where d is their count; fewer refuses 2.
+-- The tests of building from n numbers, or of fewer than two, which refuses 2.
+abbrev pub n1Tests : ℕ → ℕ → List Test
+n1Tests n room = tooMany n ∷ record { fails = ltb n 2; number = 2 } ∷ noRoom room (2 ^ n) ∷ []
+
+-- `n1Blades` takes 2 to 9 numbers at grade d-1, where d is their count.
 unfoldable pub n1Blades : List Float → Flavor → ℕ → Outcome
 n1Blades v f room =
-    unless refusedValue
-    (refusal (tooMany (length v) ∷ record { fails = ltb (length v) 2; number = 2 } ∷ noRoom room (2 ^ length v) ∷ []))
+    unless refusedValue (refusal (n1Tests (length v) room))
     (value (shapeOf (length v) f) (atGrade (length v) (length v - 1) v))
 
 -- `scalar` has one number, at grade 0, and adds a dimension under Projective.
@@ -95,9 +98,12 @@ packed Half odd d v f = value (shapeOf d f) (spread odd (order d) v)
 packed (Grade g) odd d v f = value (shapeOf d f) (atGrade d g v)
 packed Nothing odd d v f = refusedValue 2
 
--- `bladesOfSide` is `blades_left` (0) and `blades_right` (1), and refuses 2 where no packing fits.
+-- The tests of packing numbers at d dimensions: 2 where no packing fits.
+abbrev pub packedTests : ℕ → Packing → ℕ → List Test
+packedTests d p room = tooMany d ∷ record { fails = unpacked p; number = 2 } ∷ noRoom room (2 ^ d) ∷ []
+
+-- `bladesOfSide` is `blades_left` (0) and `blades_right` (1).
 unfoldable pub bladesOfSide : ℕ → ℕ → List Float → Flavor → ℕ → Outcome
 bladesOfSide odd d v f room =
     let p = packing odd d (length v) in
-    unless refusedValue (refusal (tooMany d ∷ record { fails = unpacked p; number = 2 } ∷ noRoom room (2 ^ d) ∷ []))
-    (packed p odd d v f)
+    unless refusedValue (refusal (packedTests d p room)) (packed p odd d v f)

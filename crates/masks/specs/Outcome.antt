@@ -39,6 +39,19 @@ wrongCount count d = record { fails = not (eqb count (2 ^ d)); number = 2 }
 abbrev pub noRoom : ℕ → ℕ → Test
 noRoom room needed = record { fails = ltb room needed; number = 3 }
 
+-- The tests of a call that reads a value of d dimensions and writes nothing.
+abbrev pub valueTests : ℕ → ℕ → List Test
+valueTests d count = tooMany d ∷ wrongCount count d ∷ []
+
+-- The tests of a call on a value of d dimensions, whose result stands in n dimensions and has `needed` numbers.
+abbrev pub resultTests : ℕ → ℕ → ℕ → ℕ → ℕ → List Test
+resultTests d n count room needed = tooMany d ∷ tooMany n ∷ wrongCount count d ∷ noRoom room needed ∷ []
+
+-- The tests of a call on two values, of d and e dimensions, whose result has n.
+abbrev pub pairTests : ℕ → ℕ → ℕ → ℕ → ℕ → ℕ → List Test
+pairTests d e n count countRight room =
+    tooMany d ∷ tooMany e ∷ tooMany n ∷ wrongCount count d ∷ wrongCount countRight e ∷ noRoom room (2 ^ n) ∷ []
+
 -- `unless refused k a` is the result a, unless k is the number of a refusal.
 unfoldable pub unless {ℓ} : {A : Type ℓ} → (ℕ → A) → ℕ → A → A
 unless refused zero a = a

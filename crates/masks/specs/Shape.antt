@@ -1,6 +1,6 @@
 -- Changes of shape. Assumes nothing.
 use mathlib.Core.Bool.{Bool, _&&_, _||_, cond}
-use mathlib.Core.List.{List, [], _∷_, map}
+use mathlib.Core.List.{List, [], _∷_, _++_, map}
 use Prim.Native.Nat.{ℕ, zero, suc, _+_, _^_, _/_, _%_, max}
 use lib.Dec.{eqb, ltb}
 use lib.Ieee.{Float, nan, neg}
@@ -9,7 +9,7 @@ use Rattle.masks.specs.declared.flavor.Flavor.{Flavor}
 use Rattle.masks.specs.declared.flavor.Flavor.the-variants.{Vanilla, Projective, Cl}
 use Rattle.masks.specs.declared.shape.Shape.{Shape}
 use Rattle.masks.specs.Order.{order, place}
-use Rattle.masks.specs.Outcome.{Outcome, Pair, nought, refusal, tooMany, wrongCount, noRoom, unless, value, refusedValue, refusedPair}
+use Rattle.masks.specs.Outcome.{Test, Outcome, Pair, nought, refusal, noRoom, resultTests, pairTests, unless, value, refusedValue, refusedPair}
 
 -- ---- coefficients by mask
 
@@ -46,7 +46,7 @@ resized d n a = map (moved (turnedMask d n) d a) (order n)
 -- `setDims` is the value at n dimensions, in an output of `room` numbers.
 unfoldable pub setDims : Shape → ℕ → List Float → ℕ → Outcome
 setDims s n a room =
-    unless refusedValue (refusal (tooMany (s .dims) ∷ tooMany n ∷ wrongCount (length a) (s .dims) ∷ noRoom room (2 ^ n) ∷ []))
+    unless refusedValue (refusal (resultTests (s .dims) n (length a) room (2 ^ n)))
     (value (withDims s n) (resized (s .dims) n a))
 
 -- ---- flavors
@@ -73,7 +73,7 @@ unfoldable pub setFlavor : Shape → Flavor → List Float → ℕ → Outcome
 setFlavor s f a room =
     let up = promotes (s .flavor) f in
     let n = s .dims + up in
-    unless refusedValue (refusal (tooMany (s .dims) ∷ tooMany n ∷ wrongCount (length a) (s .dims) ∷ noRoom room (2 ^ n) ∷ []))
+    unless refusedValue (refusal (resultTests (s .dims) n (length a) room (2 ^ n)))
     (value (withFlavor (withDims s n) f) (promoted up (s .dims) a))
 
 -- ---- conforming
@@ -96,8 +96,13 @@ unfoldable pub conformTo : Shape → Shape → List Float → ℕ → Outcome
 conformTo s t a room =
     let up = promotes (s .flavor) (t .flavor) in
     let n = max (s .dims + up) (t .dims) in
-    unless refusedValue (refusal (tooMany (s .dims) ∷ tooMany n ∷ wrongCount (length a) (s .dims) ∷ noRoom room (2 ^ n) ∷ []))
+    unless refusedValue (refusal (resultTests (s .dims) n (length a) room (2 ^ n)))
     (value (conformedShape up s n) (conformed up (s .dims) n a))
+
+-- The tests of two values of d and e dimensions that are conformed to n, each in an output of its own.
+abbrev pub bothTests : ℕ → ℕ → ℕ → ℕ → ℕ → ℕ → ℕ → List Test
+bothTests d e n count countRight room roomRight =
+    pairTests d e n count countRight room ++ noRoom roomRight (2 ^ n) ∷ []
 
 -- The Vanilla one of a Vanilla and Projective pair is promoted, then the smaller is grown.
 unfoldable pub conform : Shape → Shape → List Float → List Float → ℕ → ℕ → Pair
@@ -105,10 +110,7 @@ conform s t a b room roomRight =
     let up = promotes (s .flavor) (t .flavor) in
     let upRight = promotes (t .flavor) (s .flavor) in
     let n = max (s .dims + up) (t .dims + upRight) in
-    unless refusedPair
-    (refusal
-    (tooMany (s .dims) ∷ tooMany (t .dims) ∷ tooMany n ∷ wrongCount (length a) (s .dims) ∷ wrongCount (length b) (t .dims)
-    ∷ noRoom room (2 ^ n) ∷ noRoom roomRight (2 ^ n) ∷ []))
+    unless refusedPair (refusal (bothTests (s .dims) (t .dims) n (length a) (length b) room roomRight))
     (record {
       number = 0;
       leftShape = conformedShape up s n;

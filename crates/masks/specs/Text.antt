@@ -6,12 +6,10 @@ use lib.Dec.{eqb, leb, ltb}
 use lib.ListN.{length, take, drop}
 use Rattle.masks.specs.declared.flavor.Flavor.{Flavor}
 use Rattle.masks.specs.declared.flavor.Flavor.the-variants.{Vanilla, Projective, Cl}
-use Rattle.masks.specs.declared.text.ByteTest.{ByteTest}
-use Rattle.masks.specs.declared.text.ByteTest.the-variants.{Ascii, Blank, Separator, InPart}
 use Rattle.masks.specs.declared.text.Octet.{Octet}
 use Rattle.masks.specs.declared.text.Octet.the-variants.{Is, Missing}
 use Rattle.masks.specs.declared.text.Read.{Read}
-use Rattle.masks.specs.Outcome.{Written, refusal, noRoom, unless, refusedList, listed}
+use Rattle.masks.specs.Outcome.{Test, Written, refusal, noRoom, unless, refusedList, listed}
 
 -- ---- bytes
 
@@ -87,6 +85,11 @@ octetOf (c ∷ cs) =
 unfoldable pub octet : List ℕ → Octet
 octet p = octetOf (unsigned p)
 
+-- `isOctet` holds of a part that is a u8.
+abbrev pub isOctet : Octet → Bool
+isOctet (Is n) = true
+isOctet Missing = false
+
 -- What is no u8 counts as 0.
 abbrev pub orZero : Octet → ℕ
 orZero (Is n) = n
@@ -102,22 +105,6 @@ readAs f = record { number = 0; flavor = f }
 abbrev pub refusedRead : ℕ → Read
 refusedRead k = record { number = k; flavor = Vanilla }
 
--- A second or third part that is missing or no u8 counts as 0; a fourth refuses.
-abbrev pub spec : Octet → List ℕ → Read
-spec Missing rest = refusedRead 8
-spec (Is p) rest =
-    cond (same (part (afterPart (afterPart rest))) [])
-    (readAs (Cl p (orZero (octet (part rest))) (orZero (octet (part (afterPart rest))))))
-    (refusedRead 8)
-
--- The first part must be a u8.
-unfoldable pub specOf : List ℕ → Read
-specOf t = spec (octet (part t)) (afterPart t)
-
--- Text begins with Cl, or is refused.
-unfoldable pub readCl : List ℕ → Read
-readCl t = cond (same (take 2 t) (67 ∷ 108 ∷ [])) (specOf (trimmed (drop 2 t))) (refusedRead 7)
-
 -- `vga` is the bytes of VGA.
 abbrev pub vga : List ℕ
 vga = 86 ∷ 71 ∷ 65 ∷ []
@@ -126,12 +113,35 @@ vga = 86 ∷ 71 ∷ 65 ∷ []
 abbrev pub pga : List ℕ
 pga = 80 ∷ 71 ∷ 65 ∷ []
 
+-- Text begins with Cl; `specIn` is what stands after it, trimmed.
+abbrev pub beginsCl : List ℕ → Bool
+beginsCl t = same (take 2 t) (67 ∷ 108 ∷ [])
+
+abbrev pub specIn : List ℕ → List ℕ
+specIn t = trimmed (drop 2 t)
+
+-- `isSpec` holds where the first part is a u8 and there is no fourth.
+unfoldable pub isSpec : List ℕ → Bool
+isSpec t = isOctet (octet (part t)) && same (part (afterPart (afterPart (afterPart t)))) []
+
+-- `clOf` is the flavor of a spec: a second or third part that is missing or no u8 counts as 0.
+unfoldable pub clOf : List ℕ → Flavor
+clOf t =
+    Cl (orZero (octet (part t))) (orZero (octet (part (afterPart t)))) (orZero (octet (part (afterPart (afterPart t)))))
+
+-- `flavorOf` is the flavor that a text names.
+abbrev pub flavorOf : List ℕ → Flavor
+flavorOf t = cond (same t vga) Vanilla (cond (same t pga) Projective (clOf (specIn t)))
+
 -- 7: Flavor text is neither VGA nor PGA and doesn't begin with Cl, or has a byte above 127. 8: Text after Cl isn't a spec.
+abbrev pub readTests : List ℕ → List Test
+readTests t =
+    record { fails = not (every (λ c. leb c 127) t && (same t vga || same t pga || beginsCl t)); number = 7 }
+    ∷ record { fails = beginsCl t && not (isSpec (specIn t)); number = 8 } ∷ []
+
+-- `readFlavor` reads a text as a flavor.
 unfoldable pub readFlavor : List ℕ → Read
-readFlavor t =
-    cond (every (λ c. leb c 127) t)
-    (cond (same t vga) (readAs Vanilla) (cond (same t pga) (readAs Projective) (readCl t)))
-    (refusedRead 7)
+readFlavor t = unless refusedRead (refusal (readTests t)) (readAs (flavorOf t))
 
 -- ---- writing
 
@@ -153,15 +163,10 @@ textOf (Cl p n z) =
     67 ∷ 108
     ∷ cond (eqb z 0) (cond (eqb n 0) (decimal p) (spaced p ++ spaced n)) (spaced p ++ spaced n ++ spaced z)
 
--- `writeFlavor` is a flavor's text in an output of `room` bytes.
+-- The tests of writing a flavor's text in an output of `room` bytes.
+abbrev pub writeTests : Flavor → ℕ → List Test
+writeTests f room = noRoom room (length (textOf f)) ∷ []
+
+-- `writeFlavor` writes a flavor's text.
 unfoldable pub writeFlavor : Flavor → ℕ → Written ℕ
-writeFlavor f room = unless refusedList (refusal (noRoom room (length (textOf f)) ∷ [])) (listed (textOf f))
-
--- ---- tests of a byte
-
--- `passesTest test c` says whether the byte c passes the test. Only contracts of private functions cite it.
-abbrev pub passesTest : ByteTest → ℕ → Bool
-passesTest Ascii = λ c. leb c 127
-passesTest Blank = blank
-passesTest Separator = separator
-passesTest InPart = inPart
+writeFlavor f room = unless refusedList (refusal (writeTests f room)) (listed (textOf f))

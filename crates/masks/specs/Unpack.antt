@@ -7,7 +7,7 @@ use lib.Ieee.{Float}
 use lib.ListN.{length, take, drop}
 use Rattle.masks.specs.declared.shape.Shape.{Shape}
 use Rattle.masks.specs.Order.{order}
-use Rattle.masks.specs.Outcome.{Written, refusal, tooMany, wrongCount, noRoom, unless, refusedList, listed}
+use Rattle.masks.specs.Outcome.{Written, refusal, resultTests, unless, refusedList, listed}
 use Rattle.masks.specs.Shape.{coef}
 use Rattle.masks.specs.Build.{ofParity}
 
@@ -20,20 +20,15 @@ choose odd (m ∷ ms) = cond (ofParity odd m) (m ∷ choose odd ms) (choose odd 
 unfoldable pub halfMasks : ℕ → ℕ → ℕ → List ℕ
 halfMasks odd lone d = cond (eqb d 0) (lone ∷ []) (choose odd (order d))
 
--- A value of `dims` dimensions is unpacked at d dimensions, and its unpacking has `needed` numbers.
-abbrev pub unpackRefusal : ℕ → ℕ → List Float → ℕ → ℕ → ℕ
-unpackRefusal dims d a room needed =
-    refusal (tooMany dims ∷ tooMany d ∷ wrongCount (length a) dims ∷ noRoom room needed ∷ [])
-
 -- `unpackAll` reads all blades at d.
 unfoldable pub unpackAll : Shape → ℕ → List Float → ℕ → Written Float
 unpackAll s d a room =
-    unless refusedList (unpackRefusal (s .dims) d a room (2 ^ d)) (listed (map (coef (s .dims) a) (order d)))
+    unless refusedList (refusal (resultTests (s .dims) d (length a) room (2 ^ d))) (listed (map (coef (s .dims) a) (order d)))
 
 -- `halfOf` reads the even or odd blades at d of a value of `dims` dimensions: 2 ^ (d - 1) numbers, which is one where d is 0.
 unfoldable pub halfOf : ℕ → ℕ → ℕ → ℕ → List Float → ℕ → Written Float
 halfOf odd lone dims d a room =
-    unless refusedList (unpackRefusal dims d a room (2 ^ (d - 1))) (listed (map (coef dims a) (halfMasks odd lone d)))
+    unless refusedList (refusal (resultTests dims d (length a) room (2 ^ (d - 1)))) (listed (map (coef dims a) (halfMasks odd lone d)))
 
 -- Stated d = 0 gives the scalar.
 abbrev pub unpackHalf : ℕ → Shape → ℕ → List Float → ℕ → Written Float
@@ -46,5 +41,5 @@ unpackOwnHalf odd s a room = halfOf odd odd (s .dims) (s .dims) a room
 -- `unpackVector` reads the masks of grade 1 at own dimensions.
 unfoldable pub unpackVector : Shape → List Float → ℕ → Written Float
 unpackVector s a room =
-    unless refusedList (unpackRefusal (s .dims) (s .dims) a room (s .dims))
+    unless refusedList (refusal (resultTests (s .dims) (s .dims) (length a) room (s .dims)))
     (listed (map (coef (s .dims) a) (take (s .dims) (drop 1 (order (s .dims))))))

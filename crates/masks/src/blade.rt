@@ -19,14 +19,11 @@ use super::outcome::refused;
 use super::outcome::value_refusal;
 use super::shape::Shape;
 ghost use mathlib.Core.Path.{_≡_};
-ghost use mathlib.Core.List.{[], _∷_};
-ghost use mathlib.Core.Bool.{not};
 ghost use Prim.Native.Nat.{_-_, _≤_, _<_, _^_};
-ghost use lib.Dec.{ltb};
 ghost use lib.ListN.{length, set};
 ghost use Rattle.masks.specs.Order.{place, placesOf};
-ghost use Rattle.masks.specs.Outcome.{Gives, refusal, tooMany, wrongCount, noRoom, laid};
-ghost use Rattle.masks.specs.Blade.{getBlade, setBlade, bladeDims, gradeRefusal, gradePart};
+ghost use Rattle.masks.specs.Outcome.{Gives, refusal, laid};
+ghost use Rattle.masks.specs.Blade.{getBlade, setBladeTests, setBlade, bladeDims, gradeRefusal, gradePart};
 
 // The dimensions that a mask needs, from `dims` on.
 fn dims_for(dims: u8, mask: usize) -> u8
@@ -42,7 +39,7 @@ fn dims_for(dims: u8, mask: usize) -> u8
 
 // The number that setting a blade is refused with, or 0.
 fn set_blade_refusal(dims: u8, mask: usize, count: usize, room: usize) -> u8
-    ensures { λ r. ⌜ r ≡ refusal (tooMany dims ∷ record { fails = not (ltb mask 512); number = 1 } ∷ wrongCount count dims ∷ noRoom room (2 ^ (bladeDims (9 - dims) dims mask)) ∷ []) ⌝ }
+    ensures { λ r. ⌜ r ≡ refusal (setBladeTests dims mask count room) ⌝ }
 {
     if MAX_DIMS < dims {
         return TOO_MANY_DIMS;

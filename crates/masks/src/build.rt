@@ -19,10 +19,10 @@ ghost use Prim.Native.Nat.{ℕ, _+_, _-_, _*_, _≤_, _<_, _^_};
 ghost use lib.Ieee.{nan};
 ghost use lib.ListN.{length, take, getD};
 ghost use Rattle.masks.specs.Order.{start, order};
-ghost use Rattle.masks.specs.Outcome.{Gives, laid};
+ghost use Rattle.masks.specs.Outcome.{Gives, refusal, laid};
 ghost use Rattle.masks.specs.Flavor.{addedDims};
 ghost use Rattle.masks.specs.Unpack.{choose};
-ghost use Rattle.masks.specs.Build.{padded, atGrade, builtRefusal, oneGrade, vector, n1Blades, scalar, pseudoscalar, firstGrade, packing, spread, bladesOfSide};
+ghost use Rattle.masks.specs.Build.{padded, atGrade, builtTests, oneGrade, vector, n1Blades, scalar, pseudoscalar, firstGrade, packing, spread, bladesOfSide};
 
 // How some numbers fill a value.
 pub enum Packing {
@@ -67,7 +67,7 @@ fn fill_grade(dims: u8, grade: u8, v: &[f64], out: &mut [f64])
 
 // The number that building a value of some dimensions is refused with, or 0.
 fn built_refusal(dims: usize, room: usize) -> u8
-    ensures { λ r. ⌜ r ≡ builtRefusal dims room ⌝ }
+    ensures { λ r. ⌜ r ≡ refusal (builtTests dims room) ⌝ }
 {
     if (MAX_DIMS as usize) < dims {
         return TOO_MANY_DIMS;

@@ -3,9 +3,8 @@ use super::flavor::Flavor;
 use super::order::blades;
 use super::shape::Shape;
 ghost use mathlib.Core.Path.{_≡_};
-ghost use mathlib.Core.List.{[], _∷_};
-ghost use Prim.Native.Nat.{_^_};
-ghost use Rattle.masks.specs.Outcome.{answerOf, answersOf, refusedValue, refusedPair, value, shapeOf, refusal, tooMany, wrongCount, noRoom};
+ghost use mathlib.Core.List.{[]};
+ghost use Rattle.masks.specs.Outcome.{answerOf, answersOf, refusedValue, refusedPair, value, shapeOf, refusal, valueTests, resultTests, pairTests};
 
 // The largest number of dimensions, and of blades.
 pub const MAX_DIMS: u8 = 9;
@@ -96,7 +95,7 @@ pub(crate) fn refused_pair(number: u8) -> Answers
 // The number that a call is refused with, or 0: its value has `dims` dimensions and `count` numbers, its result stands in
 // `result` dimensions, has `needed` numbers and goes to `room`.
 pub fn refusal_of(dims: u8, result: u8, count: usize, room: usize, needed: usize) -> u8
-    ensures { λ r. ⌜ r ≡ refusal (tooMany dims ∷ tooMany result ∷ wrongCount count dims ∷ noRoom room needed ∷ []) ⌝ }
+    ensures { λ r. ⌜ r ≡ refusal (resultTests dims result count room needed) ⌝ }
 {
     if MAX_DIMS < dims {
         return TOO_MANY_DIMS;
@@ -115,7 +114,7 @@ pub fn refusal_of(dims: u8, result: u8, count: usize, room: usize, needed: usize
 
 // The same where there is a value and no output.
 pub fn value_refusal(dims: u8, count: usize) -> u8
-    ensures { λ r. ⌜ r ≡ refusal (tooMany dims ∷ wrongCount count dims ∷ []) ⌝ }
+    ensures { λ r. ⌜ r ≡ refusal (valueTests dims count) ⌝ }
 {
     if MAX_DIMS < dims {
         return TOO_MANY_DIMS;
@@ -135,7 +134,7 @@ pub fn pair_refusal(
     count_right: usize,
     room: usize,
 ) -> u8
-    ensures { λ r. ⌜ r ≡ refusal (tooMany dims ∷ tooMany other ∷ tooMany result ∷ wrongCount count dims ∷ wrongCount «count_right» other ∷ noRoom room (2 ^ result) ∷ []) ⌝ }
+    ensures { λ r. ⌜ r ≡ refusal (pairTests dims other result count «count_right» room) ⌝ }
 {
     if MAX_DIMS < dims {
         return TOO_MANY_DIMS;

@@ -17,12 +17,11 @@ use super::outcome::refused;
 use super::outcome::refused_pair;
 ghost use mathlib.Core.Path.{_≡_};
 ghost use mathlib.Core.Bool.{cond};
-ghost use mathlib.Core.List.{[], _∷_};
 ghost use Prim.Native.Nat.{_+_, _^_, _≤_, max};
 ghost use lib.Dec.{ltb};
 ghost use lib.ListN.{length};
-ghost use Rattle.masks.specs.Outcome.{Gives, GivesBoth, refusal, tooMany, wrongCount, noRoom, laid};
-ghost use Rattle.masks.specs.Shape.{withDims, withFlavor, promotes, conformed, conformedShape, setDims, setFlavor, conformTo, conform};
+ghost use Rattle.masks.specs.Outcome.{Gives, GivesBoth, refusal, laid};
+ghost use Rattle.masks.specs.Shape.{withDims, withFlavor, promotes, conformed, conformedShape, setDims, setFlavor, conformTo, bothTests, conform};
 
 pub struct Shape {
     pub dims: u8,
@@ -71,7 +70,7 @@ fn conform_refusal(
     room: usize,
     room_right: usize,
 ) -> u8
-    ensures { λ r. ⌜ r ≡ refusal (tooMany dims ∷ tooMany other ∷ tooMany result ∷ wrongCount count dims ∷ wrongCount «count_right» other ∷ noRoom room (2 ^ result) ∷ noRoom «room_right» (2 ^ result) ∷ []) ⌝ }
+    ensures { λ r. ⌜ r ≡ refusal (bothTests dims other result count «count_right» room «room_right») ⌝ }
 {
     let no = pair_refusal(dims, other, result, count, count_right, room);
     if no != DONE {

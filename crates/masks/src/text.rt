@@ -12,7 +12,8 @@ ghost use lib.Dec.{leb};
 ghost use lib.ListN.{length, take, drop};
 ghost use lib.Seq.{sets};
 ghost use Rattle.masks.specs.Outcome.{Writes, laid};
-ghost use Rattle.masks.specs.Text.{blank, separator, passesTest, takeWhile, dropWhile, every, same, trimmed, part, afterPart, octetOf, octet, orZero, specOf, readCl, readFlavor, decimal, textOf, writeFlavor, refusedRead, readAs};
+ghost use Rattle.masks.specs.Text.{blank, separator, takeWhile, dropWhile, every, same, trimmed, part, afterPart, octetOf, octet, orZero, readFlavor, decimal, textOf, writeFlavor, refusedRead, readAs};
+ghost use Rattle.masks.specs.inner.Text.{passesTest, specOf, readCl};
 
 // A part as a u8.
 pub enum Octet {

@@ -14,11 +14,11 @@ use Rattle.masks.specs.declared.flavor.Flavor.{Flavor}
 use Rattle.masks.specs.declared.flavor.Flavor.the-variants.{Vanilla, Projective, Cl}
 use Rattle.masks.specs.declared.shape.Shape.{Shape}
 use Rattle.masks.specs.declared.outcome.Answers.{Answers}
-use Rattle.masks.specs.Outcome.{Pair, GivesBoth, laid, refusal, unless}
+use Rattle.masks.specs.Outcome.{Pair, GivesBoth, laid, refusal, unless, pairTests}
 use Rattle.masks.specs.Shape.{promotes, resized, conformed, conformedShape, conform}
 use Rattle.masks.proofs.ListLaws.{take-laid}
 use Rattle.masks.proofs.RefusalLaws.{unless-done}
-use Rattle.masks.proofs.ChangeLaws.{Passed, passed, pairTests, paired, conformed-none}
+use Rattle.masks.proofs.ChangeLaws.{Passed, passed, paired, conformed-none}
 use Rattle.masks.proofs.ShapeLaws.{resized-same, resized-length}
 use Rattle.masks.proofs.Computed.{both}
 use Rattle.product.proofs.ProductsRefusals.{gives-refusal, pair-accepted, up, upRight, conformTests, pair, conform-number, conform-done, conform-product, refused-anyway, refused-for-room, roomy-enough, multiplied-refused}

@@ -8,10 +8,10 @@ use lib.ListN.{length}
 use borrow.Author.Tests.{eq-eqb, le-ltb, lt-ltb, ltb-false}
 use Rattle.masks.specs.declared.flavor.Flavor.the-variants.{Vanilla}
 use Rattle.masks.specs.declared.shape.Shape.{Shape}
-use Rattle.masks.specs.Outcome.{Test, Pair, refusal, tooMany, wrongCount, noRoom, unless, shapeOf, refusedPair}
-use Rattle.masks.specs.Shape.{promotes, conformed, conformedShape, conform}
+use Rattle.masks.specs.Outcome.{Test, Pair, refusal, tooMany, wrongCount, noRoom, unless, shapeOf, refusedPair, pairTests}
+use Rattle.masks.specs.Shape.{promotes, conformed, conformedShape, conform, bothTests}
 use Rattle.masks.proofs.RefusalLaws.{unless-refused, unless-done, refused-first, refused-later}
-use Rattle.masks.proofs.ChangeLaws.{Passed, passed, pairTests, pairChecks, paired, second-room}
+use Rattle.masks.proofs.ChangeLaws.{Passed, passed, paired, second-room}
 use Rattle.masks.proofs.OrderLaws.{blades-le}
 use Rattle.product.specs.declared.outcome.Product.{Product}
 use Rattle.product.specs.declared.mode.Mode.{Mode}
@@ -36,7 +36,7 @@ pair-accepted d e n count countRight room p =
     rw (le-ltb 9 d (p .small), le-ltb 9 e (p .smallRight), le-ltb 9 n (p .result), eq-eqb count (2 ^ d) (p .counted), eq-eqb countRight (2 ^ e) (p .countedRight), le-ltb room (2 ^ n) (p .roomy))
 
 -- Where two values are not refused with one output, a second one with room for the result changes nothing.
-pub second-accepted : (d e n count countRight room roomRight : ℕ) → refusal (pairTests d e n count countRight room) ≡ 0 → 2 ^ n ≤ roomRight → refusal (pairChecks d e n count countRight room roomRight) ≡ 0
+pub second-accepted : (d e n count countRight room roomRight : ℕ) → refusal (pairTests d e n count countRight room) ≡ 0 → 2 ^ n ≤ roomRight → refusal (bothTests d e n count countRight room roomRight) ≡ 0
 unfolding refusal
 second-accepted d e n count countRight room roomRight z h = second-room d e n count countRight room roomRight z ∙ rw (le-ltb roomRight (2 ^ n) h)
 
@@ -52,7 +52,7 @@ module _ (s t : Shape) (a b : List Float) where
 
   -- The tests that conforming makes.
   abbrev pub conformTests : ℕ → ℕ → List Test
-  conformTests room roomRight = pairChecks (s .dims) (t .dims) (meetingDims s t) (length a) (length b) room roomRight
+  conformTests room roomRight = bothTests (s .dims) (t .dims) (meetingDims s t) (length a) (length b) room roomRight
 
   -- Both values, conformed.
   abbrev pub pair : Pair

@@ -13,9 +13,9 @@ use mir.Syntax.{w32}
 use mir.Val.{SFits, ofZ}
 use mir.ValLaws.{toZ-ofZ}
 use Rattle.masks.specs.declared.shape.Shape.{Shape}
-use Rattle.masks.specs.Outcome.{refusal}
+use Rattle.masks.specs.Outcome.{refusal, resultTests}
 use Rattle.masks.proofs.OrderLaws.{blades-counted}
-use Rattle.masks.proofs.ChangeLaws.{checks, checked, checks-same}
+use Rattle.masks.proofs.ChangeLaws.{checked, result-tests-same}
 use Rattle.masks.proofs.RefusalLaws.{taken, refused-already}
 use Rattle.arithmetic.specs.Scalar.{testOf, wasPlanar}
 use Rattle.arithmetic.specs.Power.{isNegative, sizeOf, powerDims, powerTests}
@@ -45,16 +45,16 @@ module _ (c : tie.After-refusal-of) where
   n = powerDims s (sizeOf z)
 
   abbrev changes : ℕ
-  changes = refusal (checks (s .dims) n (length xs) (a .args .room) (2 ^ n))
+  changes = refusal (resultTests (s .dims) n (length xs) (a .args .room) (2 ^ n))
 
   number : c .refusal-of .result ≡ changes
   number =
       checked _ (s .dims) (c .before .before .power-dims .result) (length xs) (a .args .room) _ (c .refusal-of .ensures) (blades-counted (c .before .blade-count .ensures))
-      ∙ checks-same (s .dims) _ n (length xs) (a .args .room)
+      ∙ result-tests-same (s .dims) _ n (length xs) (a .args .room)
       (λ l. c .before .before .power-dims .ensures l ∙ ap (λ (y : ℤ). powerDims s (sizeOf y)) (toZ-ofZ w32 z (a .fits .power)))
 
   first-refused : (c .refusal-of .result ≡ 0 → ⊥) → c .refusal-of .result ≡ refusal (powerTests s z xs (a .args .room))
-  first-refused h = number ∙ sym (refused-already (checks (s .dims) n (length xs) (a .args .room) (2 ^ n)) _ (λ e. h (number ∙ e)))
+  first-refused h = number ∙ sym (refused-already (resultTests (s .dims) n (length xs) (a .args .room) (2 ^ n)) _ (λ e. h (number ∙ e)))
 
   fits : c .refusal-of .result ≡ 0 → PowerAccepted s z xs (a .args .room)
   fits e =

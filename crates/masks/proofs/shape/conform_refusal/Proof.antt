@@ -5,9 +5,10 @@ use Prim.Native.Nat.{_^_, _≤_, _<_}
 use native.Mathlib.Omega.{arith}
 use borrow.Author.Needs.{needs}
 use borrow.Author.Tests.{lt-ltb, le-ltb}
-use Rattle.masks.specs.Outcome.{refusal, noRoom}
+use Rattle.masks.specs.Shape.{bothTests}
+use Rattle.masks.specs.Outcome.{refusal, noRoom, pairTests}
 use Rattle.masks.proofs.RefusalLaws.{refused-already, refused-first, refused-later}
-use Rattle.masks.proofs.ChangeLaws.{pairTests, pairChecks, passed, second-room}
+use Rattle.masks.proofs.ChangeLaws.{passed, second-room}
 use Rattle.masks.proofs.shape.conform_refusal.Statement.{statement}
 use Rattle.masks.proofs.shape.conform_refusal.Tie as tie
 
@@ -29,7 +30,7 @@ unrefused : (c : tie.Else1) → let a = c .before .before .args in refusal (pair
 unrefused c = sym (c .before .pair-refusal .ensures) ∙ c .if1 .left
 
 -- The room on the right decides.
-decided : (b : tie.After-blades) → let a = b .before .before .before .args in refusal (pairChecks (a .dims) (a .other) (a .result) (a .count) (a .count-right) (a .room) (a .room-right)) ≡ refusal (noRoom (a .room-right) (2 ^ a .result) ∷ [])
+decided : (b : tie.After-blades) → let a = b .before .before .before .args in refusal (bothTests (a .dims) (a .other) (a .result) (a .count) (a .count-right) (a .room) (a .room-right)) ≡ refusal (noRoom (a .room-right) (2 ^ a .result) ∷ [])
 decided b =
     let a = b .before .before .before .args in
     second-room (a .dims) (a .other) (a .result) (a .count) (a .count-right) (a .room) (a .room-right) (unrefused (b .before))

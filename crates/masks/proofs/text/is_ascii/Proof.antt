@@ -1,7 +1,7 @@
 -- `masks::text::is_ascii` meets its contract: no byte is left where each passes. Assumes nothing.
 use borrow.Author.Needs.{needs}
 use Rattle.masks.specs.declared.text.ByteTest.the-variants.{Ascii}
-use Rattle.masks.specs.Text.{passesTest}
+use Rattle.masks.specs.inner.Text.{passesTest}
 use Rattle.masks.proofs.ScanLaws.{stopped-every}
 use Rattle.masks.proofs.text.is_ascii.Statement.{statement}
 use Rattle.masks.proofs.text.is_ascii.Tie as tie

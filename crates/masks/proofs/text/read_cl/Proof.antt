@@ -7,7 +7,8 @@ use native.Mathlib.Omega.{arith}
 use lib.ListN.{length, getD, take, drop, length-take}
 use borrow.Author.Needs.{needs}
 use borrow.Author.Tests.{eq-eqb, ne-eqb}
-use Rattle.masks.specs.Text.{same, trimmed, specOf, refusedRead, readCl}
+use Rattle.masks.specs.inner.Text.{specOf, readCl}
+use Rattle.masks.specs.Text.{same, trimmed, refusedRead}
 use Rattle.masks.proofs.ScanLaws.{rest-all, same-two, same-not}
 use Rattle.masks.proofs.text.read_cl.Statement.{statement}
 use Rattle.masks.proofs.text.read_cl.Tie as tie

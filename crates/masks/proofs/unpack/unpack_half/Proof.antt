@@ -4,8 +4,9 @@ use Prim.Native.Nat.{_-_, _^_, _≤_}
 use borrow.Author.Needs.{needs}
 use borrow.Author.Tests.{le-ltb}
 use lib.ListN.{length}
+use Rattle.masks.specs.Outcome.{refusal, resultTests}
 use Rattle.masks.specs.Shape.{coef}
-use Rattle.masks.specs.Unpack.{halfOf, halfMasks, unpackRefusal}
+use Rattle.masks.specs.Unpack.{halfOf, halfMasks}
 use Rattle.masks.proofs.RefusalLaws.{Taken, taken, needed-same, writes-refused, writes-done}
 use Rattle.masks.proofs.UnpackLaws.{length-half, counts}
 use Rattle.masks.proofs.unpack.unpack_half.Statement.{statement}
@@ -25,7 +26,7 @@ module _ (c : tie.After-refusal-of) where
   needed : s .args .d ≤ 9 → c .before .half-count .result ≡ 2 ^ (s .args .d - 1)
   needed h = rw (le-ltb 9 (s .args .d) h) at (c .before .half-count .ensures)
 
-  refused : c .refusal-of .result ≡ unpackRefusal (s .args .dims) (s .args .d) (s .args .a .now) (length (s .args .out .now)) (2 ^ (s .args .d - 1))
+  refused : c .refusal-of .result ≡ refusal (resultTests (s .args .dims) (s .args .d) (length (s .args .a .now)) (length (s .args .out .now)) (2 ^ (s .args .d - 1)))
   refused = c .refusal-of .ensures ∙ needed-same (s .args .dims) (s .args .d) (length (s .args .a .now)) (length (s .args .out .now)) _ _ needed
 
 none-requires : tie.Need-none-requires

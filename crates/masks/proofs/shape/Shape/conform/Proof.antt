@@ -5,9 +5,9 @@ use native.Mathlib.Omega.{arith}
 use borrow.Author.Needs.{needs}
 use lib.ListN.{length}
 use Rattle.masks.specs.Outcome.{refusal, laid}
-use Rattle.masks.specs.Shape.{promotes, conformed, conformedShape, conform}
+use Rattle.masks.specs.Shape.{promotes, conformed, conformedShape, conform, bothTests}
 use Rattle.masks.proofs.RefusalLaws.{gives-both-refused, gives-both-done}
-use Rattle.masks.proofs.ChangeLaws.{promotes-le, promoted-small, pairChecks, pair-checks-same, Paired, paired}
+use Rattle.masks.proofs.ChangeLaws.{promotes-le, promoted-small, both-tests-same, Paired, paired}
 use Rattle.masks.proofs.shape.Shape.conform.Statement.{statement}
 use Rattle.masks.proofs.shape.Shape.conform.Tie as tie
 
@@ -71,10 +71,10 @@ module _ (c : tie.After-conform-refusal) where
       l .larger .ensures
       ∙ ap₂ max (grown h ∙ ap (λ u. own + u) (p .before .promotion .ensures)) (grown-right k ∙ ap (λ u. theirs + u) (p .promotion2 .ensures))
 
-  numbered : c .conform-refusal .result ≡ refusal (pairChecks own theirs dims (length (s p .args .a .now)) (length (s p .args .b .now)) (length (s p .args .out .now)) (length (s p .args .out-right .now)))
+  numbered : c .conform-refusal .result ≡ refusal (bothTests own theirs dims (length (s p .args .a .now)) (length (s p .args .b .now)) (length (s p .args .out .now)) (length (s p .args .out-right .now)))
   numbered =
       c .conform-refusal .ensures
-      ∙ pair-checks-same own theirs (l .larger .result) dims (length (s p .args .a .now)) (length (s p .args .b .now)) (length (s p .args .out .now)) (length (s p .args .out-right .now)) same
+      ∙ both-tests-same own theirs (l .larger .result) dims (length (s p .args .a .now)) (length (s p .args .b .now)) (length (s p .args .out .now)) (length (s p .args .out-right .now)) same
 
   abbrev Ok : Type 0
   Ok = Paired own theirs (l .larger .result) (length (s p .args .a .now)) (length (s p .args .b .now)) (length (s p .args .out .now)) (length (s p .args .out-right .now))

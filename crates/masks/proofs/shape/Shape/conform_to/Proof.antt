@@ -4,11 +4,11 @@ use Prim.Native.Nat.{ℕ, _+_, _^_, _≤_, max}
 use native.Mathlib.Omega.{arith}
 use borrow.Author.Needs.{needs}
 use lib.ListN.{length}
-use Rattle.masks.specs.Outcome.{refusal, laid}
+use Rattle.masks.specs.Outcome.{refusal, laid, resultTests}
 use Rattle.masks.specs.Shape.{promotes, conformed, conformedShape, conformTo}
 use Rattle.masks.proofs.OrderLaws.{none-counted}
 use Rattle.masks.proofs.RefusalLaws.{Taken, taken, gives-refused, gives-done}
-use Rattle.masks.proofs.ChangeLaws.{promotes-le, promoted-small, checks, checked, checks-same}
+use Rattle.masks.proofs.ChangeLaws.{promotes-le, promoted-small, checked, result-tests-same}
 use Rattle.masks.proofs.shape.Shape.conform_to.Statement.{statement}
 use Rattle.masks.proofs.shape.Shape.conform_to.Tie as tie
 
@@ -58,12 +58,12 @@ module _ (c : tie.After-refusal-of) where
   same : own ≤ 9 → l .larger .result ≡ dims
   same h = l .larger .ensures ∙ ap (λ n. max n (s .args .other .dims)) (grown h ∙ ap (λ u. own + u) (p .promotion .ensures))
 
-  number : c .refusal-of .result ≡ refusal (checks own (l .larger .result) (length (s .args .a .now)) (length (s .args .out .now)) (2 ^ (l .larger .result)))
+  number : c .refusal-of .result ≡ refusal (resultTests own (l .larger .result) (length (s .args .a .now)) (length (s .args .out .now)) (2 ^ (l .larger .result)))
   number =
       checked _ own (l .larger .result) (length (s .args .a .now)) (length (s .args .out .now)) _ (c .refusal-of .ensures) (none-counted (c .before .blades-or-none .ensures))
 
-  numbered : c .refusal-of .result ≡ refusal (checks own dims (length (s .args .a .now)) (length (s .args .out .now)) (2 ^ dims))
-  numbered = number ∙ checks-same own (l .larger .result) dims (length (s .args .a .now)) (length (s .args .out .now)) same
+  numbered : c .refusal-of .result ≡ refusal (resultTests own dims (length (s .args .a .now)) (length (s .args .out .now)) (2 ^ dims))
+  numbered = number ∙ result-tests-same own (l .larger .result) dims (length (s .args .a .now)) (length (s .args .out .now)) same
 
   abbrev Ok : Type 0
   Ok = Taken own (l .larger .result) (length (s .args .a .now)) (length (s .args .out .now)) (2 ^ (l .larger .result))

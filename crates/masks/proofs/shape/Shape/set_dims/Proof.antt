@@ -4,11 +4,11 @@ use Prim.Native.Nat.{_^_}
 use native.Mathlib.Omega.{arith}
 use borrow.Author.Needs.{needs}
 use lib.ListN.{length}
-use Rattle.masks.specs.Outcome.{refusal, laid}
+use Rattle.masks.specs.Outcome.{refusal, laid, resultTests}
 use Rattle.masks.specs.Shape.{setDims}
 use Rattle.masks.proofs.OrderLaws.{none-counted}
 use Rattle.masks.proofs.RefusalLaws.{Taken, taken, gives-refused, gives-done}
-use Rattle.masks.proofs.ChangeLaws.{checks, checked, conformed-none}
+use Rattle.masks.proofs.ChangeLaws.{checked, conformed-none}
 use Rattle.masks.proofs.shape.Shape.set_dims.Statement.{statement}
 use Rattle.masks.proofs.shape.Shape.set_dims.Tie as tie
 
@@ -26,7 +26,7 @@ module _ (c : tie.After-refusal-of) where
   abbrev s : tie.Start
   s = c .before .before .before .before
 
-  number : c .refusal-of .result ≡ refusal (checks (s .args .self .dims) (s .args .new-dims) (length (s .args .a .now)) (length (s .args .out .now)) (2 ^ (s .args .new-dims)))
+  number : c .refusal-of .result ≡ refusal (resultTests (s .args .self .dims) (s .args .new-dims) (length (s .args .a .now)) (length (s .args .out .now)) (2 ^ (s .args .new-dims)))
   number = checked _ (s .args .self .dims) (s .args .new-dims) (length (s .args .a .now)) (length (s .args .out .now)) _ (c .refusal-of .ensures) (none-counted (c .before .blades-or-none .ensures))
 
 returns : tie.Need-returns

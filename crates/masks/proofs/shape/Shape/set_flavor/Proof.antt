@@ -4,11 +4,11 @@ use Prim.Native.Nat.{ℕ, _+_, _^_, _≤_}
 use native.Mathlib.Omega.{arith}
 use borrow.Author.Needs.{needs}
 use lib.ListN.{length}
-use Rattle.masks.specs.Outcome.{refusal, laid}
+use Rattle.masks.specs.Outcome.{refusal, laid, resultTests}
 use Rattle.masks.specs.Shape.{promotes, conformed, setFlavor}
 use Rattle.masks.proofs.OrderLaws.{none-counted}
 use Rattle.masks.proofs.RefusalLaws.{Taken, taken, gives-refused, gives-done}
-use Rattle.masks.proofs.ChangeLaws.{conformed-same, promotes-le, promoted-small, checks, checked, checks-same}
+use Rattle.masks.proofs.ChangeLaws.{conformed-same, promotes-le, promoted-small, checked, result-tests-same}
 use Rattle.masks.proofs.shape.Shape.set_flavor.Statement.{statement}
 use Rattle.masks.proofs.shape.Shape.set_flavor.Tie as tie
 
@@ -52,10 +52,10 @@ module _ (c : tie.After-refusal-of) where
   same : own ≤ 9 → g .promoted-dims .result ≡ dims
   same l = promoted-small own _ _ (g .promoted-dims .ensures) l ∙ ap (λ u. own + u) (p .promotion .ensures)
 
-  numbered : c .refusal-of .result ≡ refusal (checks own dims (length (s .args .a .now)) (length (s .args .out .now)) (2 ^ dims))
+  numbered : c .refusal-of .result ≡ refusal (resultTests own dims (length (s .args .a .now)) (length (s .args .out .now)) (2 ^ dims))
   numbered =
       checked _ own (g .promoted-dims .result) (length (s .args .a .now)) (length (s .args .out .now)) _ (c .refusal-of .ensures) (none-counted (c .before .blades-or-none .ensures))
-      ∙ checks-same own (g .promoted-dims .result) dims (length (s .args .a .now)) (length (s .args .out .now)) same
+      ∙ result-tests-same own (g .promoted-dims .result) dims (length (s .args .a .now)) (length (s .args .out .now)) same
 
 returns : tie.Need-returns
 unfolding setFlavor

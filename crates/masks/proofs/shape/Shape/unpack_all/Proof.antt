@@ -3,9 +3,10 @@ use mathlib.Core.Path.{_≡_, sym, _∙_}
 use Prim.Native.Nat.{_^_, _≤_}
 use borrow.Author.Needs.{needs}
 use lib.ListN.{length}
+use Rattle.masks.specs.Outcome.{refusal, resultTests}
 use Rattle.masks.specs.Order.{order}
 use Rattle.masks.specs.Shape.{coef}
-use Rattle.masks.specs.Unpack.{unpackAll, unpackRefusal}
+use Rattle.masks.specs.Unpack.{unpackAll}
 use Rattle.masks.proofs.OrderLaws.{length-order, none-counted}
 use Rattle.masks.proofs.RefusalLaws.{Taken, taken, writes-refused, writes-done}
 use Rattle.masks.proofs.ChangeLaws.{checked}
@@ -27,7 +28,7 @@ module _ (c : tie.After-refusal-of) where
   needed : s .args .d ≤ 9 → c .before .blades-or-none .result ≡ 2 ^ s .args .d
   needed h = none-counted (c .before .blades-or-none .ensures) h
 
-  refused : c .refusal-of .result ≡ unpackRefusal (s .args .self .dims) (s .args .d) (s .args .a .now) (length (s .args .out .now)) (2 ^ s .args .d)
+  refused : c .refusal-of .result ≡ refusal (resultTests (s .args .self .dims) (s .args .d) (length (s .args .a .now)) (length (s .args .out .now)) (2 ^ s .args .d))
   refused =
       checked _ (s .args .self .dims) (s .args .d) (length (s .args .a .now)) (length (s .args .out .now)) _ (c .refusal-of .ensures) (none-counted (c .before .blades-or-none .ensures))
 
