@@ -18,14 +18,14 @@ use Rattle.masks.specs.declared.shape.Shape.{Shape}
 use Rattle.masks.specs.declared.flavor.Flavor.{Flavor}
 use Rattle.masks.specs.declared.flavor.Flavor.the-variants.{Vanilla}
 use Rattle.masks.specs.declared.build.Packing.the-variants.{Grade}
-use Rattle.masks.specs.Order.{order, size, start, rank, place, held, masksOf, orderFor}
+use Rattle.masks.specs.Order.{grade, gradesBelow, order, size, start, indexOf, place, held, masksOf, orderFor}
 use Rattle.masks.specs.Outcome.{Outcome, shapeOf, refusal, resultTests, unless, laid, refusedList, listed, countOf, nought}
 use Rattle.masks.specs.Flavor.{addedDims}
 use Rattle.masks.specs.Shape.{coef, moved}
 use Rattle.masks.specs.Blade.{getBlade, gradeRefusal, gradePart}
 use Rattle.masks.specs.Build.{padded, atGrade, oneGrade, vector, n1Blades, scalar, pseudoscalar, packing, ofParity, spread, bladesOfSide}
 use Rattle.masks.specs.Unpack.{choose, halfMasks, unpackAll, halfOf, unpackHalf, unpackOwnHalf, unpackVector}
-use Rattle.masks.proofs.OrderLaws.{length-order, size-zero, grade-has, place-lt, order-place, order-at, blades-le, take-masks, built-masks}
+use Rattle.masks.proofs.OrderLaws.{length-order, size-zero, rank, grade-has, place-ranked, place-lt, order-place, order-at, blades-le, take-masks, built-masks}
 use Rattle.masks.proofs.RefusalLaws.{unless-done}
 use Rattle.masks.proofs.ShapeLaws.{coef-inside, coef-outside, moved-other, ordered}
 use Rattle.masks.proofs.ChangeLaws.{passes}
@@ -274,10 +274,10 @@ length-one d g x l e = length-grade-set d g (x ∷ []) (grade-fits d g 1 l e)
 
 -- the one number of a grade, at its mask
 pub single-back : (d g m : ℕ) (x : Float) → m < 2 ^ d → ones m ≡ g → size d g ≡ 1 → coef d (atGrade d g (x ∷ [])) m ≡ x
-unfolding atGrade place
+unfolding atGrade
 single-back d g m x h e s =
     let r : rank d g m ≡ 0 = omega (arith, grade-has d g m h e .inside) in
-    coef-inside d m (atGrade d g (x ∷ [])) h ∙ padded-at (start d g) (x ∷ []) (2 ^ d) (place d m) 0 (rw (e, r)) (omega arith)
+    coef-inside d m (atGrade d g (x ∷ [])) h ∙ padded-at (start d g) (x ∷ []) (2 ^ d) (place d m) 0 (sym (place-ranked d m h ∙ (rw (e, r)))) (omega arith)
 
 -- ---- no dimensions
 
@@ -287,7 +287,7 @@ stated-none s a odd into h e m =
     half-unpacked s a h e odd 0 0 into (omega arith) m ∙ rw (lone-mask odd 0 0 refl)
 
 one-number : (x : Float) → coef 0 (x ∷ []) 0 ≡ x
-unfolding coef place start rank ones onesIn
+unfolding coef place indexOf order gradesBelow grade
 one-number x = refl
 
 -- at 0 dimensions of its own, the scalar for even, and 0 for odd
