@@ -20,7 +20,7 @@ use Rattle.rounding.proofs.ValueLaws.{whole-if}
 use Rattle.masks.specs.declared.flavor.Flavor.{Flavor}
 use Rattle.masks.specs.declared.flavor.Flavor.the-variants.{Vanilla, Projective, Cl}
 use Rattle.masks.specs.declared.shape.Shape.{Shape}
-use Rattle.masks.specs.Order.{order, place, upFrom, grade, gradesBelow, size, start, rank}
+use Rattle.masks.specs.Order.{order, indexOf, place, upFrom, grade, gradesBelow, size, start}
 use Rattle.masks.specs.Flavor.{metricOf}
 use Rattle.masks.specs.Outcome.{shapeOf, unless, refusal, nought}
 use Rattle.masks.specs.Shape.{coef, turnedMask, resized, promotes, promoted, conform, conformed, conformedShape}
@@ -169,7 +169,7 @@ times-worked f x y u v =
 ab-worked : times (plane Vanilla) 4 a b ≡ fin true 121 (negsuc 3) ∷ fin true 15 (negsuc 1) ∷ fin true 35 (negsuc 1) ∷ fin false 27 (negsuc 1) ∷ []
 ab-worked =
     times-worked Vanilla a b a-holds b-holds
-    ∙ unfold upFrom sumAt gathered snap round add mul pairMetric takes flavorFor metric swaps shared turned has total count sign pow one metricOf order place grade gradesBelow size start rank ones onesIn a b in refl
+    ∙ unfold upFrom sumAt gathered snap round add mul pairMetric takes flavorFor metric swaps shared turned has total count sign pow one metricOf order indexOf place grade gradesBelow size start ones onesIn a b in refl
 
 -- A test passes for each mode.
 each : (Mode → Bool) → Bool
@@ -190,7 +190,7 @@ isTested f =
     each (λ m. isExact m f 2 2 a b) && (isExact All f 4 2 (worked f a b) c && (isExact All f 2 2 b c && isExact All f 2 4 a (worked f b c)))
 
 tested : (n : ℕ) → T (isTested (sample n))
-unfolding sample isTested each isExact isMultiple exactSizes contributes metricAt placeAt upFrom sumAt gathered snap round add mul pairMetric takes within flavorFor metric swaps shared turned has total count sign pow one metricOf order place grade gradesBelow size start rank ones onesIn a b c
+unfolding sample isTested each isExact isMultiple exactSizes contributes metricAt placeAt upFrom sumAt gathered snap round add mul pairMetric takes within flavorFor metric swaps shared turned has total count sign pow one metricOf order indexOf place grade gradesBelow size start ones onesIn a b c
 tested zero = tt
 tested (suc zero) = tt
 tested (suc (suc n)) = tt
@@ -231,7 +231,7 @@ two = fin false 1 (pos 1) ∷ nought ∷ nought ∷ nought ∷ []
 
 -- The T of coefficient 0 is 2 ^ 54, above the 2 ^ 53 of the exact case, and that of coefficient 1 is 2.
 sizes : (exactSizes All Vanilla 2 0 0 0 large two ≡ 2 ^ 54) × (exactSizes All Vanilla 2 1 0 0 large two ≡ 2)
-unfolding exactSizes contributes metricAt placeAt pairMetric takes flavorFor metric swaps shared turned has total count sign pow one metricOf order place grade gradesBelow size start rank ones onesIn large two
+unfolding exactSizes contributes metricAt placeAt pairMetric takes flavorFor metric swaps shared turned has total count sign pow one metricOf order indexOf place grade gradesBelow size start ones onesIn large two
 sizes = (refl, refl)
 
 exactly-at : IsExactly 0 (getD (times (plane Vanilla) 4 large two) 1 nan) (exactSum All Vanilla 2 1 0 0 large two)
@@ -247,5 +247,5 @@ exactly-at =
 conformed-first : (mode : Mode)
     → multiplied mode (shapeOf 1 Vanilla) (shapeOf 0 Projective) (fin false 3 (pos 0) ∷ fin false 1 (pos 2) ∷ []) (fin false 1 (negsuc 0) ∷ []) 4
     ≡ multiplied mode (plane Projective) (plane Projective) (fin false 3 (pos 0) ∷ nought ∷ fin false 1 (pos 2) ∷ nought ∷ []) (fin false 1 (negsuc 0) ∷ nought ∷ nought ∷ nought ∷ []) 4
-unfolding conform conformed conformedShape resized promoted promotes turnedMask coef unless refusal order gradesBelow grade place start size rank ones onesIn
+unfolding conform conformed conformedShape resized promoted promotes turnedMask coef unless refusal order gradesBelow grade indexOf place start size ones onesIn
 conformed-first mode = as-conformed mode (shapeOf 1 Vanilla) (shapeOf 0 Projective) _ _ 4 (refused-by mode (shapeOf 1 Vanilla) (shapeOf 0 Projective) _ _ 4)

@@ -16,7 +16,7 @@ use Rattle.rounding.specs.Snap.{snap}
 use Rattle.masks.specs.declared.flavor.Flavor.the-variants.{Vanilla, Projective, Cl}
 use Rattle.masks.specs.declared.shape.Shape.{Shape}
 use Rattle.masks.specs.Flavor.{metricOf}
-use Rattle.masks.specs.Order.{order, gradesBelow, grade, place, start, size, rank}
+use Rattle.masks.specs.Order.{order, gradesBelow, grade, indexOf, place, start, size}
 use Rattle.masks.specs.Outcome.{shapeOf, value, unless, refusal, nought}
 use Rattle.masks.specs.Shape.{coef, turnedMask, resized, promotes, promoted, conform, conformed, conformedShape}
 use Rattle.masks.proofs.Table as Masks
@@ -57,7 +57,7 @@ pub record Rows : Type 0 where
   pub projective-pairs : pairsOf All Projective 3 ≡ 48
 
 pub table : Rows
-unfolding multiplied conform conformed conformedShape resized promoted promotes turnedMask coef unless refusal order gradesBelow grade place start size rank ones onesIn product sums inside addPair term metricAt placeAt pairMetric pairsOf pairs takes within flavorFor metricOf metric swaps total count shared has sign pow one turned add mul ofInt neg snap round
+unfolding multiplied conform conformed conformedShape resized promoted promotes turnedMask coef unless refusal order gradesBelow grade indexOf place start size ones onesIn product sums inside addPair term metricAt placeAt pairMetric pairsOf pairs takes within flavorFor metricOf metric swaps total count shared has sign pow one turned add mul ofInt neg snap round
 table =
     record {
       masks = Masks.table;
