@@ -5,7 +5,6 @@ use mathlib.Core.List.{List, map}
 use Prim.Native.Nat.{ℕ, zero, suc, _+_, _-_, _*_, _^_, _≤_, _<_}
 use native.Mathlib.Nat.{le-trans, mul-comm, mul-zero, zero-add}
 use native.Mathlib.Omega.{arith}
-use lib.Count.{ones, onesIn}
 use lib.Dec.{T, eqb, eqb→eq, lit≤, lit<}
 use lib.Pow.{pow-pos}
 use lib.Ieee.{Float, nan, inf, fin, binary64, unlike, up, down, level, round, eq, mul, fits}
@@ -29,11 +28,11 @@ use Rattle.rounding.proofs.SizedLaws.{range-grid, product-le}
 use Rattle.masks.specs.declared.flavor.Flavor.{Flavor}
 use Rattle.masks.specs.declared.shape.Shape.{Shape}
 use Rattle.masks.specs.Flavor.{metricOf}
-use Rattle.masks.specs.Order.{start, rank, place}
+use Rattle.masks.specs.Order.{place}
 use Rattle.masks.specs.Outcome.{Outcome}
 use Rattle.masks.proofs.Computed.{both}
 use Rattle.masks.proofs.ListLaws.{getD-map}
-use Rattle.masks.proofs.OrderLaws.{order-at, order-place}
+use Rattle.masks.proofs.OrderLaws.{place-zero, order-at, order-place}
 use Rattle.product.specs.declared.mode.Mode.the-variants.{All}
 use Rattle.product.specs.Mode.{takes, flavorFor, pairMetric}
 use Rattle.product.specs.Pairwise.{maskAt}
@@ -160,15 +159,9 @@ module _ (p q : ℕ) (ts : ℕ → Term) where
 
 -- ---- the pairs of a scalar on the right
 
-rank-zero : (d : ℕ) → rank d 0 0 ≡ 0
-unfolding rank
-rank-zero zero = refl
-rank-zero (suc d) = rank-zero d
-
 -- Mask 0 is at place 0.
 mask-zero : (d : ℕ) → maskAt d 0 ≡ 0
-unfolding place start ones onesIn
-mask-zero d = ap (maskAt d) (sym (zero-add (rank d 0 0) ∙ rank-zero d)) ∙ order-place d 0 (pow-pos d)
+mask-zero d = ap (maskAt d) (sym (place-zero d)) ∙ order-place d 0 (pow-pos d)
 
 -- The pair of a's place k with the scalar.
 abbrev pub pairOf : List Float → List Float → ℕ → Term

@@ -37,10 +37,10 @@ use Rattle.masks.specs.declared.flavor.Flavor.the-variants.{Vanilla}
 use Rattle.masks.specs.declared.shape.Shape.{Shape}
 use Rattle.masks.specs.Flavor.{metricOf}
 use Rattle.masks.specs.Outcome.{value, shapeOf, nought}
-use Rattle.masks.specs.Order.{grade, gradesBelow, order, place, start, rank}
+use Rattle.masks.specs.Order.{grade, gradesBelow, order, place, start}
 use Rattle.masks.specs.Shape.{negatedIf}
 use Rattle.masks.specs.Build.{atGrade}
-use Rattle.masks.proofs.OrderLaws.{order-at, order-place, place-lt, grade-has, start-all, blades-le}
+use Rattle.masks.proofs.OrderLaws.{rank, place-ranked, order-at, order-place, place-lt, grade-has, start-all, blades-le}
 use Rattle.masks.proofs.BuildLaws.{padded-at, padded-before, size-last}
 use Rattle.product.specs.declared.mode.Mode.the-variants.{All}
 use Rattle.product.specs.Mode.{takes, flavorFor, pairMetric}
@@ -244,8 +244,7 @@ unit-around d a k h =
 
 module _ (d : ℕ) where
   last-start : last d ≡ start d d
-  unfolding place
-  last-start = ap (λ (n : ℕ). start d n + rank d n (full d)) (ones-ones d) ∙ omega (arith, grade-has d d (full d) (full-low d) (ones-ones d) .inside, size-last d)
+  last-start = place-ranked d (full d) (full-low d) ∙ ap (λ (n : ℕ). start d n + rank d n (full d)) (ones-ones d) ∙ omega (arith, grade-has d d (full d) (full-low d) (ones-ones d) .inside, size-last d)
 
   abbrev I : List Float
   I = pseudoUnit d
