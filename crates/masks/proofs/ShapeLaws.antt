@@ -1,6 +1,6 @@
 -- Laws of changes of shape on coefficients: what they do at each mask, and what the code's steps make of them. Assumes nothing.
 use mathlib.Core.Path.{_≡_, refl, sym, ap, ap₂, _∙_}
-use mathlib.Core.Bool.{Bool, true, false, _&&_, _||_, cond, and-false, and-comm, or-comm, Bool·not-not}
+use mathlib.Core.Bool.{Bool, true, false, _&&_, _||_, cond, and-true, and-false, and-comm, or-comm, Bool·not-not}
 use mathlib.Core.Logic.{⊎-elim}
 use mathlib.Core.List.{List, map, map-map}
 use Prim.Native.Nat.{ℕ, zero, suc, _+_, _*_, _/_, _%_, _^_, _≤_, _<_}
@@ -15,7 +15,8 @@ use lib.Pow.{pow-mono}
 use lib.Seq.{length-take-le, getD-take, getD-drop, ext-getD}
 use Rattle.masks.specs.Order.{order, place, masksOf}
 use Rattle.masks.specs.Outcome.{laid, nought}
-use Rattle.masks.specs.Shape.{coef, negatedIf, moved, turnedMask, resized, lowered, promoted}
+use Rattle.masks.specs.Shape.{coef, negatedIf, negates, moved, resized, raised, promoted}
+use Rattle.masks.specs.inner.Gather.{negatedAt, turnedMask, lowered}
 use Rattle.masks.proofs.ListLaws.{split, getD-map, take-laid}
 use Rattle.masks.proofs.OrderLaws.{length-order, order-at, order-place, place-lt, blades-le, take-masks}
 
@@ -42,8 +43,8 @@ pub coef-outside : (d m : ℕ) (a : List Float) → 2 ^ d ≤ m → coef d a m �
 unfolding coef
 coef-outside d m a h = rw (le-ltb m (2 ^ d) h)
 
-pub moved-other : (t d m : ℕ) (a : List Float) → (m ≡ t → ⊥) → moved t d a m ≡ coef d a m
-moved-other t d m a h = rw (ne-eqb m t h)
+pub negated-other : (t d m : ℕ) (a : List Float) → (m ≡ t → ⊥) → negatedAt t d a m ≡ coef d a m
+negated-other t d m a h = rw (ne-eqb m t h)
 
 -- ---- a number for each mask, in order
 
@@ -70,24 +71,22 @@ ordered f n a e g =
 
 pub resized-length : (d n : ℕ) (a : List Float) → length (resized d n a) ≡ 2 ^ n
 unfolding resized
-resized-length d n a = ordered-length (moved (turnedMask d n) d a) n
+resized-length d n a = ordered-length (moved d n a) n
 
 -- what a change of dimensions does at each mask
-pub resized-at : (d n m : ℕ) (a : List Float) → m < 2 ^ n → coef n (resized d n a) m ≡ moved (turnedMask d n) d a m
+pub resized-at : (d n m : ℕ) (a : List Float) → m < 2 ^ n → coef n (resized d n a) m ≡ moved d n a m
 unfolding resized
-resized-at d n m a h = ordered-at (moved (turnedMask d n) d a) n m h
+resized-at d n m a h = ordered-at (moved d n a) n m h
 
-turned-same : (d : ℕ) → turnedMask d d ≡ 512
-unfolding turnedMask
-turned-same d =
+negates-none : (d m : ℕ) → negates d d m ≡ false
+unfolding negates
+negates-none d m =
     ⊎-elim (λ (h : 3 < d). simp (ne-eqb d 3 (λ e. omega arith), and-false)) (λ (h : d ≤ 3). simp (le-ltb 3 d h, and-false)) (split 3 d)
 
 -- to the same dimensions nothing changes
 pub resized-same : (d : ℕ) (a : List Float) → d ≤ 9 → length a ≡ 2 ^ d → resized d d a ≡ a
 unfolding resized
-resized-same d a h e =
-    ordered (moved (turnedMask d d) d a) d a e
-    (λ m l. moved-other (turnedMask d d) d m a (λ q. omega (arith, q, turned-same d, blades-le d h)))
+resized-same d a h e = ordered (moved d d a) d a e (λ m l. rw (negates-none d m))
 
 neg-neg : (x : Float) → neg (neg x) ≡ x
 unfolding neg
@@ -100,25 +99,37 @@ twice true x = neg-neg x
 twice false x = refl
 
 -- up and down the same mask is negated
-turned-back : (d n : ℕ) → turnedMask d n ≡ turnedMask n d
-unfolding turnedMask
-turned-back d n =
-    ap (λ (b : Bool). cond b 5 512)
+negates-back : (d n m : ℕ) → negates d n m ≡ negates n d m
+unfolding negates
+negates-back d n m =
+    ap (λ (b : Bool). eqb m 5 && b)
     (or-comm (eqb d 3 && ltb 3 n) (ltb 3 d && eqb n 3) ∙ ap₂ _||_ (and-comm (ltb 3 d) (eqb n 3)) (and-comm (eqb d 3) (ltb 3 n)))
 
 -- up and back down nothing changes
 pub resized-back : (d n : ℕ) (a : List Float) → d ≤ n → length a ≡ 2 ^ d → resized n d (resized d n a) ≡ a
 unfolding resized
 resized-back d n a l e =
-    ordered (moved (turnedMask n d) n (resized d n a)) d a e
+    ordered (moved n d (resized d n a)) d a e
     (λ m h.
     let k : m < 2 ^ n = omega (arith, pow-mono {i = d} {j = n} l) in
-    ap (negatedIf (eqb m (turnedMask n d))) (resized-at d n m a k) ∙ rw (turned-back d n) (twice (eqb m (turnedMask n d)) (coef d a m)))
+    ap (negatedIf (negates n d m)) (resized-at d n m a k) ∙ rw (negates-back d n m) (twice (negates n d m) (coef d a m)))
+
+-- the mask that the code negates is the one that the change does
+turned-negates : (d n m : ℕ) → m < 512 → eqb m (turnedMask d n) ≡ negates d n m
+unfolding turnedMask negates
+turned-negates d n m h = go ((eqb d 3 && ltb 3 n) || (ltb 3 d && eqb n 3))
+  where
+    go : (b : Bool) → eqb m (cond b 5 512) ≡ (eqb m 5 && b)
+    go true = sym (and-true (eqb m 5))
+    go false = ne-eqb m 512 (λ e. omega arith) ∙ sym (and-false (eqb m 5))
 
 -- what the code gathers
-pub resized-from : (d n turned count : ℕ) (a : List Float) (ms : List ℕ) → turned ≡ turnedMask d n → count ≡ 2 ^ n → ms ≡ masksOf n → map (moved turned d a) (take count (drop 0 ms)) ≡ resized d n a
-unfolding resized
-resized-from d n turned count a ms t c e = rw (t, c, e, take-masks n)
+pub resized-from : (d n turned count : ℕ) (a : List Float) (ms : List ℕ) → n ≤ 9 → turned ≡ turnedMask d n → count ≡ 2 ^ n → ms ≡ masksOf n → map (negatedAt turned d a) (take count (drop 0 ms)) ≡ resized d n a
+resized-from d n turned count a ms h t c e =
+    rw (t, c, e, take-masks n)
+    (ordered (negatedAt (turnedMask d n) d a) n (resized d n a) (resized-length d n a)
+    (λ m l.
+    ap (λ (b : Bool). negatedIf b (coef d a m)) (turned-negates d n m (omega (arith, blades-le n h))) ∙ sym (resized-at d n m a l)))
 
 -- what was laid into a buffer is read back
 pub resized-held : (d n count : ℕ) (a held buf : List Float) → count ≡ 2 ^ n → held ≡ laid (resized d n a) buf → take count held ≡ resized d n a
@@ -128,14 +139,12 @@ resized-held d n count a held buf c e = rw (e, c, take-laid (2 ^ n) (resized d n
 
 pub promoted-length : (d : ℕ) (a : List Float) → length (promoted 1 d a) ≡ 2 ^ (d + 1)
 unfolding promoted
-promoted-length d a =
-    length-map (map lowered (order (d + 1))) (coef d a) ∙ length-map (order (d + 1)) lowered ∙ length-order (d + 1)
+promoted-length d a = ordered-length (raised d a) (d + 1)
 
 -- what a promotion does at each mask
-pub promoted-at : (d m : ℕ) (a : List Float) → m < 2 ^ (d + 1) → coef (d + 1) (promoted 1 d a) m ≡ coef d a (lowered m)
+pub promoted-at : (d m : ℕ) (a : List Float) → m < 2 ^ (d + 1) → coef (d + 1) (promoted 1 d a) m ≡ raised d a m
 unfolding promoted
-promoted-at d m a h =
-    ap (λ (xs : List Float). coef (d + 1) xs m) (map-map (coef d a) lowered (order (d + 1))) ∙ ordered-at (λ (x : ℕ). coef d a (lowered x)) (d + 1) m h
+promoted-at d m a h = ordered-at (raised d a) (d + 1) m h
 
 double-lt : (d m : ℕ) → m < 2 ^ d → 2 * m + 1 < 2 ^ (d + 1)
 double-lt d m h = rw (add-one d) (omega (arith, pow-suc 2 d))
@@ -145,32 +154,39 @@ pub promoted-even : (d m : ℕ) (a : List Float) → m < 2 ^ d → coef (d + 1) 
 promoted-even d m a h =
     let r : 2 * m % 2 ≡ 0 = omega arith in
     let q : 2 * m / 2 ≡ m = omega arith in
-    promoted-at d (2 * m) a (omega (arith, double-lt d m h)) ∙ ap (coef d a) (rw (eq-eqb (2 * m % 2) 0 r) q)
+    promoted-at d (2 * m) a (omega (arith, double-lt d m h)) ∙ rw (eq-eqb (2 * m % 2) 0 r) (ap (coef d a) q)
 
 -- a mask with bit 0 is new
-pub promoted-odd : (d m : ℕ) (a : List Float) → d ≤ 9 → m < 2 ^ d → coef (d + 1) (promoted 1 d a) (2 * m + 1) ≡ nought
-promoted-odd d m a l h =
-    promoted-at d (2 * m + 1) a (double-lt d m h)
-    ∙ rw (ne-eqb ((2 * m + 1) % 2) 0 (λ e. omega arith)) (coef-outside d 512 a (blades-le d l))
+pub promoted-odd : (d m : ℕ) (a : List Float) → m < 2 ^ d → coef (d + 1) (promoted 1 d a) (2 * m + 1) ≡ nought
+promoted-odd d m a h =
+    promoted-at d (2 * m + 1) a (double-lt d m h) ∙ rw (ne-eqb ((2 * m + 1) % 2) 0 (λ e. omega arith))
 
 lowered-le : (m : ℕ) → m ≤ 1024 → lowered m ≤ 512
 lowered-le m h =
     ⊎-elim (λ (q : m % 2 < 1). rw (eq-eqb (m % 2) 0 (omega arith)) (omega arith)) (λ (q : 1 ≤ m % 2). rw (ne-eqb (m % 2) 0 (λ e. omega arith)) (omega arith))
     (split (m % 2) 1)
 
+-- the mask that the code reads is the one that a mask comes from
+lowered-raised : (d m : ℕ) (a : List Float) → d ≤ 9 → coef d a (lowered m) ≡ raised d a m
+lowered-raised d m a h = go (eqb (m % 2) 0)
+  where
+    go : (b : Bool) → coef d a (cond b (m / 2) 512) ≡ cond b (coef d a (m / 2)) nought
+    go true = refl
+    go false = coef-outside d 512 a (blades-le d h)
+
 -- nothing is negated where a mask that no value has is turned
-pub promoted-moved : (d : ℕ) (a : List Float) → d < 9 → map (moved 1024 d a) (map lowered (order (d + 1))) ≡ promoted 1 d a
-unfolding promoted
+promoted-moved : (d : ℕ) (a : List Float) → d < 9 → map (negatedAt 1024 d a) (map lowered (order (d + 1))) ≡ promoted 1 d a
 promoted-moved d a h =
-    map-map (moved 1024 d a) lowered (order (d + 1))
-    ∙ ordered (λ (m : ℕ). moved 1024 d a (lowered m)) (d + 1) (promoted 1 d a) (promoted-length d a)
+    map-map (negatedAt 1024 d a) lowered (order (d + 1))
+    ∙ ordered (λ (m : ℕ). negatedAt 1024 d a (lowered m)) (d + 1) (promoted 1 d a) (promoted-length d a)
     (λ m l.
     let k : m < 512 = omega (arith, blades-le (d + 1) (omega arith)) in
-    moved-other 1024 d (lowered m) a (λ e. omega (arith, e, lowered-le m (omega arith)))
+    negated-other 1024 d (lowered m) a (λ e. omega (arith, e, lowered-le m (omega arith)))
+    ∙ lowered-raised d m a (omega arith)
     ∙ sym (promoted-at d m a l))
 
 -- what the code gathers
-pub promoted-from : (d count : ℕ) (a : List Float) (ms buf low : List ℕ) → d < 9 → count ≡ 2 ^ (d + 1) → ms ≡ masksOf (d + 1) → low ≡ laid (map lowered (take count ms)) buf → map (moved 1024 d a) (take count (drop 0 low)) ≡ promoted 1 d a
+pub promoted-from : (d count : ℕ) (a : List Float) (ms buf low : List ℕ) → d < 9 → count ≡ 2 ^ (d + 1) → ms ≡ masksOf (d + 1) → low ≡ laid (map lowered (take count ms)) buf → map (negatedAt 1024 d a) (take count (drop 0 low)) ≡ promoted 1 d a
 promoted-from d count a ms buf low h c e l =
     rw (l, e, c, take-masks (d + 1), take-laid (2 ^ (d + 1)) (map lowered (order (d + 1))) buf (length-map (order (d + 1)) lowered ∙ length-order (d + 1)))
     (promoted-moved d a h)

@@ -10,7 +10,7 @@ use lib.ListN.{replicate}
 use Rattle.masks.specs.declared.flavor.Flavor.the-variants.{Vanilla, Projective}
 use Rattle.masks.specs.Order.{order, gradesBelow, grade, indexOf, place, start, size}
 use Rattle.masks.specs.Outcome.{shapeOf, value, unless, refusal, nought}
-use Rattle.masks.specs.Shape.{coef, turnedMask, resized, setDims, promotes, promoted, setFlavor}
+use Rattle.masks.specs.Shape.{coef, negates, resized, setDims, promotes, promoted, setFlavor}
 use Rattle.masks.specs.Build.{bladesOfSide, packing, spread}
 
 -- 1, 5 and 7 as floats
@@ -36,7 +36,7 @@ pub record Rows : Type 0 where
   pub e31-promoted : setFlavor (shapeOf 3 Vanilla) Projective (only 5 one 2) 16 ≡ value (shapeOf 4 Projective) (only 9 one 6)
 
 pub table : Rows
-unfolding order gradesBelow grade indexOf place start size ones onesIn neg unless refusal bladesOfSide packing spread setDims setFlavor promotes promoted resized turnedMask coef
+unfolding order gradesBelow grade indexOf place start size ones onesIn neg unless refusal bladesOfSide packing spread setDims setFlavor promotes promoted resized negates coef
 table =
     record {
       order-of-3 = refl;

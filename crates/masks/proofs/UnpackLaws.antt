@@ -12,6 +12,7 @@ use lib.Ieee.{Float, nan}
 use lib.ListN.{length, getD, set, take, drop, length-drop, length-map, drop-of-length-le, replicate, length-replicate}
 use lib.Seq.{length-take-le, take-suc-set, take-append-le, drop-append-le, drop-at, take-at}
 use lib.Pow.{pow-pos, ones-lt}
+use Rattle.masks.specs.inner.Gather.{negatedAt}
 use Rattle.masks.specs.declared.order.Order.{Order}
 use Rattle.masks.specs.declared.outcome.Count.{Count}
 use Rattle.masks.specs.declared.shape.Shape.{Shape}
@@ -21,13 +22,13 @@ use Rattle.masks.specs.declared.build.Packing.the-variants.{Grade}
 use Rattle.masks.specs.Order.{grade, gradesBelow, order, size, start, indexOf, place, held, masksOf, orderFor}
 use Rattle.masks.specs.Outcome.{Outcome, shapeOf, refusal, resultTests, unless, laid, refusedList, listed, countOf, nought}
 use Rattle.masks.specs.Flavor.{addedDims}
-use Rattle.masks.specs.Shape.{coef, moved}
+use Rattle.masks.specs.Shape.{coef}
 use Rattle.masks.specs.Blade.{getBlade, gradeRefusal, gradePart}
 use Rattle.masks.specs.Build.{padded, atGrade, oneGrade, vector, n1Blades, scalar, pseudoscalar, packing, ofParity, spread, bladesOfSide}
 use Rattle.masks.specs.Unpack.{choose, halfMasks, unpackAll, halfOf, unpackHalf, unpackOwnHalf, unpackVector}
 use Rattle.masks.proofs.OrderLaws.{length-order, size-zero, rank, grade-has, place-ranked, place-lt, order-place, order-at, blades-le, take-masks, built-masks}
 use Rattle.masks.proofs.RefusalLaws.{unless-done}
-use Rattle.masks.proofs.ShapeLaws.{coef-inside, coef-outside, moved-other, ordered}
+use Rattle.masks.proofs.ShapeLaws.{coef-inside, coef-outside, negated-other, ordered}
 use Rattle.masks.proofs.ChangeLaws.{passes}
 use Rattle.masks.proofs.BladeLaws.{get-blade-done}
 use Rattle.masks.proofs.BuildLaws.{padded-at, lt-blades, start-one, size-one, size-last, size-before-last, grade-fits, vector-fits, length-grade-set, choose-has, choose-lacks, choose-le, choose-next, choose-skip, half-count, half-twice, half-some, length-half-set, spread-has, spread-lacks, Packs, packing-fits, one-built, n1-one, full-built, half-built, grade-built}
@@ -128,22 +129,22 @@ vector-held d =
 
 module _ (turned dims : ℕ) (a : List Float) (t : 512 ≤ turned) where
   -- none of these masks is the one that is negated
-  unturned : (ms : List ℕ) → Low 512 ms → map (moved turned dims a) ms ≡ map (coef dims a) ms
+  unturned : (ms : List ℕ) → Low 512 ms → map (negatedAt turned dims a) ms ≡ map (coef dims a) ms
   unturned [] h = refl
   unturned (m ∷ ms) h =
-      rw (moved-other turned dims m a (λ e. omega (arith, h .0)), unturned ms (h .1))
+      rw (negated-other turned dims m a (λ e. omega (arith, h .0)), unturned ms (h .1))
 
   -- what is written where the coefficients of such masks are gathered
   module _ (d : ℕ) (ms : List ℕ) (l : d ≤ 9) (e : ms ≡ masksOf d) (before after : List Float) where
-    pub all-read : (count : ℕ) → count ≡ 2 ^ d → after ≡ laid (map (moved turned dims a) (take count (drop 0 ms))) before → after ≡ laid (map (coef dims a) (order d)) before
+    pub all-read : (count : ℕ) → count ≡ 2 ^ d → after ≡ laid (map (negatedAt turned dims a) (take count (drop 0 ms))) before → after ≡ laid (map (coef dims a) (order d)) before
     all-read count n g = g ∙ rw (e, n, take-masks d, unturned (order d) (low-order d l))
 
-    pub vector-read : after ≡ laid (map (moved turned dims a) (take d (drop 1 ms))) before → after ≡ laid (map (coef dims a) (take d (drop 1 (order d)))) before
+    pub vector-read : after ≡ laid (map (negatedAt turned dims a) (take d (drop 1 ms))) before → after ≡ laid (map (coef dims a) (take d (drop 1 (order d)))) before
     vector-read g =
         g
         ∙ rw (e, vector-held d, unturned (take d (drop 1 (order d))) (low-take 512 d (drop 1 (order d)) (low-drop 512 1 (order d) (low-order d l))))
 
-    pub half-read : (odd n count : ℕ) (chosen : List ℕ) → n ≡ 2 ^ d → take count chosen ≡ choose odd (take n ms) → after ≡ laid (map (moved turned dims a) (take count (drop 0 chosen))) before → after ≡ laid (map (coef dims a) (choose odd (order d))) before
+    pub half-read : (odd n count : ℕ) (chosen : List ℕ) → n ≡ 2 ^ d → take count chosen ≡ choose odd (take n ms) → after ≡ laid (map (negatedAt turned dims a) (take count (drop 0 chosen))) before → after ≡ laid (map (coef dims a) (choose odd (order d))) before
     half-read odd n count chosen q h g =
         g ∙ rw (h, e, q, take-masks d, unturned (choose odd (order d)) (low-choose 512 odd (order d) (low-order d l)))
 

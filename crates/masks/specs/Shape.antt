@@ -21,10 +21,6 @@ coef d a m = cond (ltb m (2 ^ d)) (getD a (place d m) nan) nought
 abbrev pub negatedIf : Bool → Float → Float
 negatedIf t x = cond t (neg x) x
 
--- `moved turned d a m` is the coefficient of a mask, negated at the mask `turned`.
-abbrev pub moved : ℕ → ℕ → List Float → ℕ → Float
-moved turned d a m = negatedIf (eqb m turned) (coef d a m)
-
 -- ---- dimensions
 
 -- `withDims` gives a shape other dimensions.
@@ -35,13 +31,17 @@ withDims s d = record { dims = d; flavor = s .flavor }
 abbrev pub withFlavor : Shape → Flavor → Shape
 withFlavor s f = record { dims = s .dims; flavor = f }
 
--- Growing from 3, or shrinking to 3 from more, negates mask 101; any other change negates 512, which no value has.
-unfoldable pub turnedMask : ℕ → ℕ → ℕ
-turnedMask d n = cond ((eqb d 3 && ltb 3 n) || (ltb 3 d && eqb n 3)) 5 512
+-- `negates d n m` says whether a change from d to n dimensions negates a mask: growing from 3, or shrinking to 3 from more, negates mask 101.
+unfoldable pub negates : ℕ → ℕ → ℕ → Bool
+negates d n m = eqb m 5 && ((eqb d 3 && ltb 3 n) || (ltb 3 d && eqb n 3))
+
+-- `moved d n a m` is the coefficient of a mask of a value of d dimensions, as it stands at n.
+abbrev pub moved : ℕ → ℕ → List Float → ℕ → Float
+moved d n a m = negatedIf (negates d n m) (coef d a m)
 
 -- `resized d n a` moves each coefficient of a value of d dimensions to its mask's new place, fills with +0, and drops masks with bits outside.
 unfoldable pub resized : ℕ → ℕ → List Float → List Float
-resized d n a = map (moved (turnedMask d n) d a) (order n)
+resized d n a = map (moved d n a) (order n)
 
 -- `setDims` is the value at n dimensions, in an output of `room` numbers.
 unfoldable pub setDims : Shape → ℕ → List Float → ℕ → Outcome
@@ -59,14 +59,14 @@ promotes Vanilla (Cl p n z) = 0
 promotes Projective g = 0
 promotes (Cl p n z) g = 0
 
--- Where bit i has become bit i + 1, `lowered m` is the mask that m comes from: 512, which no value has, where m has bit 0.
-abbrev pub lowered : ℕ → ℕ
-lowered m = cond (eqb (m % 2) 0) (m / 2) 512
+-- `raised d a m` is the coefficient of a mask where bit i of a value of d dimensions has become bit i + 1: +0 for a mask that has bit 0.
+abbrev pub raised : ℕ → List Float → ℕ → Float
+raised d a m = cond (eqb (m % 2) 0) (coef d a (m / 2)) nought
 
 -- `promoted up d a` is a value of d dimensions promoted by `up` of them, 0 or 1.
 unfoldable pub promoted : ℕ → ℕ → List Float → List Float
 promoted zero d a = a
-promoted (suc up) d a = map (coef d a) (map lowered (order (d + 1)))
+promoted (suc up) d a = map (raised d a) (order (d + 1))
 
 -- `setFlavor` is the value in another flavor, in an output of `room` numbers.
 unfoldable pub setFlavor : Shape → Flavor → List Float → ℕ → Outcome

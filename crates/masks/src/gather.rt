@@ -8,7 +8,8 @@ ghost use Prim.Native.Nat.{_+_, _^_, _≤_, _<_};
 ghost use lib.ListN.{length, take, drop};
 ghost use Rattle.masks.specs.Order.{masksOf, placesOf};
 ghost use Rattle.masks.specs.Outcome.{laid};
-ghost use Rattle.masks.specs.Shape.{coef, moved, negatedIf, turnedMask, resized, lowered, promoted, conformed};
+ghost use Rattle.masks.specs.Shape.{coef, negatedIf, resized, promoted, conformed};
+ghost use Rattle.masks.specs.inner.Gather.{negatedAt, turnedMask, lowered};
 
 // A mask that no value has.
 pub(crate) const NO_MASK: u16 = 512;
@@ -48,7 +49,7 @@ pub(crate) fn gather<'o>(
 )
     requires { ⌜ (dims ≤ 9) × (now places ≡ placesOf dims) × (length (now a) ≡ 2 ^ dims) ⌝ }
     requires { ⌜ (first + count ≤ 512) × (count ≤ length (now out)) ⌝ }
-    ensures { λ _. ⌜ now (out .exit) ≡ laid (map (moved turned dims (now (a .entry))) (take count (drop first (now (masks .entry))))) (now (out .entry)) ⌝ }
+    ensures { λ _. ⌜ now (out .exit) ≡ laid (map (negatedAt turned dims (now (a .entry))) (take count (drop first (now (masks .entry))))) (now (out .entry)) ⌝ }
 {
     // As a slice, of which the proof knows the elements' range.
     let all = &masks[..];

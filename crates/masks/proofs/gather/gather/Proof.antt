@@ -6,7 +6,8 @@ use native.Mathlib.Omega.{arith}
 use lib.Dec.{eqb}
 use lib.Ieee.{Float, nan}
 use lib.ListN.{length, getD, take, drop}
-use Rattle.masks.specs.Shape.{moved, negatedIf}
+use Rattle.masks.specs.inner.Gather.{negatedAt}
+use Rattle.masks.specs.Shape.{negatedIf}
 use Rattle.masks.proofs.ListLaws.{front, front-length, front-step, front-all}
 use Rattle.masks.proofs.ShapeLaws.{part-length, part-at}
 use Rattle.masks.proofs.gather.gather.Statement.{statement}
@@ -14,7 +15,7 @@ use Rattle.masks.proofs.gather.gather.Tie as tie
 
 abbrev Inv-loop : tie.InvT-loop
 Inv-loop masks first count dims places turned a out₀ all k₀ out k =
-    (k ≤ count) × (out ≡ front k (map (moved turned dims a) (take count (drop first masks))) out₀)
+    (k ≤ count) × (out ≡ front k (map (negatedAt turned dims a) (take count (drop first masks))) out₀)
 
 abbrev μ-loop : tie.MeasureT-loop
 μ-loop masks first count dims places turned a out₀ all k₀ out k = count - k
@@ -28,7 +29,7 @@ module _ (c : tie.At-loop Inv-loop μ-loop) where
   s = c .before .before .before .before
 
   abbrev moves : ℕ → Float
-  moves = moved (s .args .turned) (s .args .dims) (s .args .a .now)
+  moves = negatedAt (s .args .turned) (s .args .dims) (s .args .a .now)
 
   abbrev ms : List ℕ
   ms = s .args .masks .now

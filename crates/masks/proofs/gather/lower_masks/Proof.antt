@@ -5,7 +5,7 @@ use Prim.Native.Nat.{ℕ, _-_, _≤_, _<_}
 use native.Mathlib.Nat.{zero-add}
 use native.Mathlib.Omega.{arith}
 use lib.ListN.{length, getD, take}
-use Rattle.masks.specs.Shape.{lowered}
+use Rattle.masks.specs.inner.Gather.{lowered}
 use Rattle.masks.proofs.ListLaws.{front, front-length, front-step, front-all}
 use Rattle.masks.proofs.ShapeLaws.{part-length, part-at}
 use Rattle.masks.proofs.gather.lower_masks.Statement.{statement}

@@ -32,7 +32,7 @@ returns c =
     let s = t .before .before .before .before in
     c .before .before .gather .ensures
     ∙ ap (λ xs. laid xs (s .args .out .now))
-    (resized-from (s .args .dims) (s .args .new-dims) _ _ (s .args .a .now) _ (t .before .turned-mask .ensures) (t .blades .ensures) (s .pre .1 .0))
+    (resized-from (s .args .dims) (s .args .new-dims) _ _ (s .args .a .now) _ (s .pre .0 .1) (t .before .turned-mask .ensures) (t .blades .ensures) (s .pre .1 .0))
 
 pub resize-spec : {M : Type 1} → statement M
 resize-spec =

@@ -1,7 +1,7 @@
 -- `masks::gather::turned_mask` meets its contract, by the tests on the way. Assumes nothing.
 use mathlib.Core.Bool.{and-false}
 use borrow.Author.Tests.{eq-eqb, ne-eqb, lt-ltb, le-ltb}
-use Rattle.masks.specs.Shape.{turnedMask}
+use Rattle.masks.specs.inner.Gather.{turnedMask}
 use Rattle.masks.proofs.gather.turned_mask.Statement.{statement}
 use Rattle.masks.proofs.gather.turned_mask.Tie as tie
 
