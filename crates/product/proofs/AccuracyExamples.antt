@@ -23,7 +23,7 @@ use Rattle.masks.specs.declared.shape.Shape.{Shape}
 use Rattle.masks.specs.Order.{order, indexOf, place, upFrom, grade, gradesBelow, size, start}
 use Rattle.masks.specs.Flavor.{metricOf}
 use Rattle.masks.specs.Outcome.{shapeOf, unless, refusal, nought}
-use Rattle.masks.specs.Shape.{coef, turnedMask, resized, promotes, promoted, conform, conformed, conformedShape}
+use Rattle.masks.specs.Shape.{coef, negates, resized, promotes, promoted, conform, conformed, conformedShape}
 use Rattle.masks.proofs.Computed.{upto, upto-at, both}
 use Rattle.product.specs.declared.mode.Mode.{Mode}
 use Rattle.product.specs.declared.mode.Mode.the-variants.{All, Left, Right, Inner, Outer}
@@ -247,5 +247,5 @@ exactly-at =
 conformed-first : (mode : Mode)
     → multiplied mode (shapeOf 1 Vanilla) (shapeOf 0 Projective) (fin false 3 (pos 0) ∷ fin false 1 (pos 2) ∷ []) (fin false 1 (negsuc 0) ∷ []) 4
     ≡ multiplied mode (plane Projective) (plane Projective) (fin false 3 (pos 0) ∷ nought ∷ fin false 1 (pos 2) ∷ nought ∷ []) (fin false 1 (negsuc 0) ∷ nought ∷ nought ∷ nought ∷ []) 4
-unfolding conform conformed conformedShape resized promoted promotes turnedMask coef unless refusal order gradesBelow grade indexOf place start size ones onesIn
+unfolding conform conformed conformedShape resized promoted promotes negates coef unless refusal order gradesBelow grade indexOf place start size ones onesIn
 conformed-first mode = as-conformed mode (shapeOf 1 Vanilla) (shapeOf 0 Projective) _ _ 4 (refused-by mode (shapeOf 1 Vanilla) (shapeOf 0 Projective) _ _ 4)

@@ -1,23 +1,23 @@
 -- A product that is done is that of the conformed values, which have one number of dimensions, under the left one's flavor; they meet the premises of demand 3 that the given values meet. Assumes nothing.
 use mathlib.Core.Path.{_≡_, refl, sym, ap, _∙_}
-use mathlib.Core.Bool.{Bool, true, false}
-use mathlib.Core.List.{List, map}
+use mathlib.Core.Bool.{Bool, true, false, cond}
+use mathlib.Core.List.{List}
 use mathlib.Core.Logic.{⊎-elim}
-use Prim.Native.Nat.{ℕ, zero, suc, _+_, _^_, _≤_, _<_}
+use Prim.Native.Nat.{ℕ, zero, suc, _+_, _/_, _%_, _^_, _≤_, _<_}
 use native.Mathlib.Nat.{add-zero}
 use native.Mathlib.Omega.{arith}
 use lib.Dec.{T, eqb}
 use lib.Ieee.{Float, nan, inf, fin, binary64, neg, fits}
 use lib.Ieee.Fits.{neg-fits}
 use lib.IntN.{pos}
-use lib.ListN.{getD, length, length-map}
+use lib.ListN.{getD, length}
 use Rattle.rounding.specs.Sized.{Sized}
 use Rattle.rounding.specs.Value.{Whole}
 use Rattle.rounding.proofs.ValueLaws.{zero-whole}
 use Rattle.masks.specs.declared.shape.Shape.{Shape}
 use Rattle.masks.specs.Order.{order}
 use Rattle.masks.specs.Outcome.{Pair, refusal, nought}
-use Rattle.masks.specs.Shape.{coef, negatedIf, moved, turnedMask, resized, lowered, promotes, promoted, promotedFlavor, conformed, conformedShape, conform}
+use Rattle.masks.specs.Shape.{coef, negatedIf, negates, moved, resized, raised, promotes, promoted, promotedFlavor, conformed, conformedShape, conform}
 use Rattle.masks.proofs.ListLaws.{split, getD-map}
 use Rattle.masks.proofs.OrderLaws.{length-order, place-lt}
 use Rattle.masks.proofs.ShapeLaws.{coef-inside, coef-outside, resized-length}
@@ -44,6 +44,10 @@ module _ (Has : Float → Type 0) (kept : Kept Has) where
   coef-has d a h m =
       ⊎-elim (λ (l : m < 2 ^ d). rw (coef-inside d m a l) (h _ (place-lt d m l))) (λ (l : 2 ^ d ≤ m). rw (coef-outside d m a l) (kept .0)) (split m (2 ^ d))
 
+  raised-has : (b : Bool) (x : Float) → Has x → Has (cond b x nought)
+  raised-has true x h = h
+  raised-has false x h = kept .0
+
   negated-has : (b : Bool) (x : Float) → Has x → Has (negatedIf b x)
   negated-has true x h = kept .1 x h
   negated-has false x h = h
@@ -52,15 +56,16 @@ module _ (Has : Float → Type 0) (kept : Kept Has) where
   unfolding promoted
   promoted-has zero d a l h i k = h i (rw (add-zero d) at k)
   promoted-has (suc zero) d a l h i k =
-      rw (getD-map (coef d a) (map lowered (order (d + 1))) i 0 nan (omega (arith, length-map (order (d + 1)) lowered, length-order (d + 1)))) (coef-has d a h _)
+      let m = getD (order (d + 1)) i 0 in
+      rw (getD-map (raised d a) (order (d + 1)) i 0 nan (omega (arith, length-order (d + 1)))) (raised-has (eqb (m % 2) 0) _ (coef-has d a h (m / 2)))
   promoted-has (suc (suc _)) d a l h i k = absurd (omega arith)
 
   conformed-has : (up d n : ℕ) (a : List Float) → up ≤ 1 → Each Has d a → Each Has n (conformed up d n a)
   unfolding conformed resized
   conformed-has up d n a l h i k =
       let m = getD (order n) i 0 in
-      rw (getD-map (moved (turnedMask (d + up) n) (d + up) (promoted up d a)) (order n) i 0 nan (omega (arith, length-order n)))
-      (negated-has (eqb m (turnedMask (d + up) n)) _ (coef-has (d + up) (promoted up d a) (promoted-has up d a l h) m))
+      rw (getD-map (moved (d + up) n (promoted up d a)) (order n) i 0 nan (omega (arith, length-order n)))
+      (negated-has (negates (d + up) n m) _ (coef-has (d + up) (promoted up d a) (promoted-has up d a l h) m))
 
 sized-negated : (x : Float) → Sized 400 x → Sized 400 (neg x)
 unfolding neg

@@ -18,7 +18,7 @@ use Rattle.masks.specs.declared.shape.Shape.{Shape}
 use Rattle.masks.specs.Flavor.{metricOf}
 use Rattle.masks.specs.Order.{order, gradesBelow, grade, indexOf, place, start, size}
 use Rattle.masks.specs.Outcome.{shapeOf, value, unless, refusal, nought}
-use Rattle.masks.specs.Shape.{coef, turnedMask, resized, promotes, promoted, conform, conformed, conformedShape}
+use Rattle.masks.specs.Shape.{coef, negates, resized, promotes, promoted, conform, conformed, conformedShape}
 use Rattle.masks.proofs.Table as Masks
 use Rattle.product.specs.declared.mode.Mode.the-variants.{All, Left, Right, Inner, Outer}
 use Rattle.product.specs.Mode.{takes, flavorFor, pairMetric}
@@ -57,7 +57,7 @@ pub record Rows : Type 0 where
   pub projective-pairs : pairsOf All Projective 3 ≡ 48
 
 pub table : Rows
-unfolding multiplied conform conformed conformedShape resized promoted promotes turnedMask coef unless refusal order gradesBelow grade indexOf place start size ones onesIn product sums inside addPair term metricAt placeAt pairMetric pairsOf pairs takes within flavorFor metricOf metric swaps total count shared has sign pow one turned add mul ofInt neg snap round
+unfolding multiplied conform conformed conformedShape resized promoted promotes negates coef unless refusal order gradesBelow grade indexOf place start size ones onesIn product sums inside addPair term metricAt placeAt pairMetric pairsOf pairs takes within flavorFor metricOf metric swaps total count shared has sign pow one turned add mul ofInt neg snap round
 table =
     record {
       masks = Masks.table;
