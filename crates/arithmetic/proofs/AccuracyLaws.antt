@@ -30,8 +30,7 @@ use Rattle.masks.specs.declared.shape.Shape.{Shape}
 use Rattle.masks.specs.Flavor.{metricOf}
 use Rattle.masks.specs.Order.{place}
 use Rattle.masks.specs.Outcome.{Outcome}
-use Rattle.masks.proofs.Computed.{both}
-use Rattle.masks.proofs.ListLaws.{getD-map}
+use Rattle.masks.proofs.ListLaws.{getD-map, both}
 use Rattle.masks.proofs.OrderLaws.{place-zero, order-at, order-place}
 use Rattle.product.specs.declared.mode.Mode.the-variants.{All}
 use Rattle.product.specs.Mode.{takes, flavorFor, pairMetric}

@@ -11,7 +11,7 @@ use borrow.Author.Tests.{eq-eqb, eqb-true, not-false}
 use Rattle.masks.specs.declared.flavor.Flavor.the-variants.{Vanilla}
 use Rattle.masks.specs.declared.shape.Shape.{Shape}
 use Rattle.masks.specs.Outcome.{refusal, tooMany, wrongCount, unless, shapeOf, nought}
-use Rattle.masks.proofs.RefusalLaws.{past, unless-done}
+use Rattle.masks.proofs.OutcomeLaws.{past, unless-done}
 use Rattle.arithmetic.specs.declared.outcome.Ordering.the-variants.{Less}
 use Rattle.arithmetic.specs.Scalar.{allZero, isScalar, isPlanar, testOf, ifScalar}
 use Rattle.arithmetic.specs.Compare.{comparedTests, answersAgree, refusedYesNo, equals, comparedNumbers, comparedPlaces, comparedCounts, comparedBy, compared}

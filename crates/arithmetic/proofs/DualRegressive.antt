@@ -14,8 +14,7 @@ use Rattle.masks.specs.Shape.{conformedShape}
 use Rattle.masks.specs.Build.{pseudoscalar}
 use Rattle.masks.proofs.ListLaws.{take-laid}
 use Rattle.masks.proofs.OrderLaws.{blades-le}
-use Rattle.masks.proofs.RefusalLaws.{gives-refused, gives-done}
-use Rattle.masks.proofs.ChangeLaws.{Passed}
+use Rattle.masks.proofs.OutcomeLaws.{gives-refused, gives-done, Passed}
 use Rattle.masks.proofs.BuildLaws.{size-last, grade-fits, length-grade-set, one-built}
 use Rattle.product.specs.declared.mode.Mode.the-variants.{All, Outer}
 use Rattle.product.specs.declared.outcome.Product.{Product}

@@ -11,8 +11,8 @@ use lib.Pow.{pow-pos}
 use Rattle.masks.specs.declared.shape.Shape.{Shape}
 use Rattle.masks.specs.declared.outcome.Answer.{Answer}
 use Rattle.masks.specs.Outcome.{Test, Outcome, Gives, refusal, unless, value, refusedValue, answerOf, laid, nought}
-use Rattle.masks.proofs.Computed.{both}
-use Rattle.masks.proofs.RefusalLaws.{past, refused-already, refused-later, unless-refused, gives-refused, gives-done}
+use Rattle.masks.proofs.ListLaws.{both}
+use Rattle.masks.proofs.OutcomeLaws.{past, refused-already, refused-later, unless-refused, gives-refused, gives-done}
 use Rattle.arithmetic.specs.declared.scalar.ScalarTest.{ScalarTest}
 use Rattle.arithmetic.specs.declared.scalar.ScalarTest.the-variants.{Scalar, Planar, Neither}
 use Rattle.arithmetic.specs.Scalar.{testOf, ifScalar, wasPlanar}

@@ -14,9 +14,8 @@ use Rattle.masks.specs.declared.outcome.Answer.{Answer}
 use Rattle.masks.specs.Outcome.{Outcome, Gives, laid, refusal, tooMany, unless, value, refusedValue, answerOf, nought, resultTests}
 use Rattle.masks.specs.Shape.{setDims}
 use Rattle.masks.proofs.ListLaws.{take-laid, front, front-length, front-step, front-all}
-use Rattle.masks.proofs.RefusalLaws.{taken, later-same, refused-later, unless-done, gives-refused, gives-done}
+use Rattle.masks.proofs.OutcomeLaws.{taken, later-same, refused-later, unless-done, gives-refused, gives-done, not-refused}
 use Rattle.masks.proofs.ShapeLaws.{resized-same, part-length, part-at}
-use Rattle.masks.proofs.ChangeLaws.{not-refused}
 use Rattle.product.proofs.ListLaws.{front-next, laid-over}
 use Rattle.arithmetic.specs.declared.outcome.Taken.{Taken}
 use Rattle.arithmetic.specs.Kept.{keptTests, kept, scalarOnly, Halves, GivesTaken}

@@ -16,10 +16,9 @@ use Rattle.masks.specs.declared.outcome.Answer.{Answer}
 use Rattle.masks.specs.Outcome.{Outcome, Gives, refusal, unless, value, refusedValue, laid, resultTests, pairTests}
 use Rattle.masks.specs.Shape.{promotes, conformed, conformedShape, conformTo, conform, bothTests}
 use Rattle.masks.proofs.ListLaws.{take-laid}
-use Rattle.masks.proofs.RefusalLaws.{taken, unless-done, unless-refused}
-use Rattle.masks.proofs.ChangeLaws.{Passed, passed, passes, conformed-none, not-refused}
+use Rattle.masks.proofs.OutcomeLaws.{taken, unless-done, unless-refused, Passed, passed, passes, not-refused}
 use Rattle.masks.proofs.OrderLaws.{blades-le}
-use Rattle.masks.proofs.ShapeLaws.{resized-length, resized-same}
+use Rattle.masks.proofs.ShapeLaws.{resized-length, resized-same, conformed-none}
 use Rattle.product.specs.declared.mode.Mode.the-variants.{All}
 use Rattle.product.specs.Pairwise.{product}
 use Rattle.product.specs.Products.{Counted, refusedProduct, meetingDims, productTests, multiplied, generalProduct}

@@ -22,11 +22,9 @@ use Rattle.masks.specs.declared.shape.Shape.{Shape}
 use Rattle.masks.specs.Flavor.{addedDims}
 use Rattle.masks.specs.Outcome.{Test, Outcome, Gives, refusal, tooMany, wrongCount, noRoom, unless, value, refusedValue, laid}
 use Rattle.masks.specs.Shape.{withDims, setDims, promotes}
-use Rattle.masks.proofs.ChangeLaws.{not-refused}
-use Rattle.masks.proofs.Computed.{both-true}
-use Rattle.masks.proofs.ListLaws.{take-laid}
+use Rattle.masks.proofs.ListLaws.{take-laid, both-true}
 use Rattle.masks.proofs.OrderLaws.{blades-le}
-use Rattle.masks.proofs.RefusalLaws.{refused-first, refused-later}
+use Rattle.masks.proofs.OutcomeLaws.{refused-first, refused-later, not-refused}
 use Rattle.arithmetic.specs.Scalar.{testOf, wasPlanar}
 use Rattle.arithmetic.specs.Operators.{isOther, resultDims, operatorTests, multiplication}
 use Rattle.arithmetic.specs.Dual.{ample}

@@ -14,8 +14,7 @@ use Rattle.masks.specs.declared.shape.Shape.{Shape}
 use Rattle.masks.specs.declared.outcome.Answer.{Answer}
 use Rattle.masks.specs.Outcome.{Outcome, Gives, refusal, tooMany, wrongCount, noRoom, unless, value, refusedValue, shapeOf, answerOf, pairTests as countTests}
 use Rattle.masks.specs.Shape.{promotes}
-use Rattle.masks.proofs.RefusalLaws.{later-same, refused-already, unless-done, gives-refused}
-use Rattle.masks.proofs.ChangeLaws.{passed}
+use Rattle.masks.proofs.OutcomeLaws.{later-same, refused-already, unless-done, gives-refused, passed}
 use Rattle.arithmetic.specs.declared.scalar.Complex.{Complex}
 use Rattle.arithmetic.specs.declared.scalar.ScalarTest.{ScalarTest}
 use Rattle.arithmetic.specs.declared.scalar.ScalarTest.the-variants.{Scalar, Planar, Neither}

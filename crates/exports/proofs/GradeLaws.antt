@@ -9,7 +9,7 @@ use Rattle.masks.specs.declared.shape.Shape.{Shape}
 use Rattle.masks.specs.Order.{size, start, gradeSize}
 use Rattle.masks.specs.Outcome.{refusal, unless}
 use Rattle.masks.specs.Blade.{gradeRefusal, gradePart}
-use Rattle.masks.proofs.RefusalLaws.{unless-done}
+use Rattle.masks.proofs.OutcomeLaws.{unless-done}
 
 -- The count is the size where the dimensions are not refused.
 pub size-counted : (d g : ℕ) → d ≤ 9 → gradeSize d g .count ≡ size d g

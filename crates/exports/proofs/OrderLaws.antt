@@ -12,7 +12,7 @@ use Rattle.masks.specs.Order.{order, place, upFrom, placesOf, held, orderFor, b
 use Rattle.masks.specs.Outcome.{refusal, unless, laid}
 use Rattle.masks.proofs.ListLaws.{split}
 use Rattle.masks.proofs.OrderLaws.{blades-le, take-masks, up-length}
-use Rattle.masks.proofs.PassLaws.{masks-length, places-length}
+use Rattle.masks.proofs.OrderPasses.{masks-length, places-length}
 use Rattle.exports.specs.Told.{told}
 use Rattle.exports.specs.Parts.{taken, orderRefusal, TellsOrderOf}
 

@@ -18,9 +18,8 @@ use Rattle.masks.specs.Shape.{coef, withDims, resized}
 use Rattle.masks.specs.Blade.{getBlade, bladeDims, withBlade, setBladeTests, setBlade, gradeRefusal}
 use Rattle.masks.proofs.ListLaws.{split}
 use Rattle.masks.proofs.OrderLaws.{place-lt}
-use Rattle.masks.proofs.RefusalLaws.{past, refused-later, unless-done}
+use Rattle.masks.proofs.OutcomeLaws.{past, refused-later, unless-done, not-refused}
 use Rattle.masks.proofs.ShapeLaws.{coef-inside, resized-length}
-use Rattle.masks.proofs.ChangeLaws.{not-refused}
 
 -- ---- the tests of a value, which stand before others
 

@@ -24,7 +24,7 @@ use Rattle.masks.specs.Build.{padded, atGrade, builtTests, oneGrade, n1T
 use Rattle.masks.specs.Unpack.{choose}
 use Rattle.masks.proofs.ListLaws.{getD-past}
 use Rattle.masks.proofs.OrderLaws.{length-grade, length-order, grade-at, size-zero, start-all, size-above, part-fits}
-use Rattle.masks.proofs.RefusalLaws.{past, refused-first, refused-later, unless-done}
+use Rattle.masks.proofs.OutcomeLaws.{past, refused-first, refused-later, unless-done}
 
 -- ---- numbers from a place on
 

@@ -14,7 +14,7 @@ use Rattle.masks.specs.Shape.{bothTests}
 use Rattle.masks.specs.Blade.{setBladeTests, gradeTests}
 use Rattle.masks.specs.Build.{builtTests, n1Tests, packedTests}
 use Rattle.masks.specs.Text.{readTests, writeTests}
-use Rattle.masks.proofs.Computed.{both}
+use Rattle.masks.proofs.ListLaws.{both}
 
 -- The numbers of a list of tests rise from n on.
 abbrev pub rises : ℕ → List Test → Bool

@@ -17,9 +17,8 @@ use Rattle.masks.specs.declared.text.Read.{Read}
 use Rattle.masks.specs.Outcome.{refusal, unless}
 use Rattle.masks.specs.inner.Text.{spec, specOf, readCl}
 use Rattle.masks.specs.Text.{decimalDigit, every, same, decimalValue, unsigned, octetOf, octet, isOctet, orZero, part, afterPart, readAs, refusedRead, vga, pga, beginsCl, specIn, isSpec, clOf, readFlavor, decimal, spaced, textOf}
-use Rattle.masks.proofs.Computed.{same-eq}
-use Rattle.masks.proofs.ListLaws.{sets-append}
-use Rattle.masks.proofs.ScanLaws.{drop-end, every-end, every-not, every-on, same-nil, same-not}
+use Rattle.masks.proofs.ListLaws.{sets-append, same-eq}
+use Rattle.masks.proofs.TextScan.{drop-end, every-end, every-not, every-on, same-nil, same-not}
 
 -- ---- digits
 

@@ -27,9 +27,8 @@ use Rattle.masks.specs.Blade.{getBlade, gradeRefusal, gradePart}
 use Rattle.masks.specs.Build.{padded, atGrade, oneGrade, vector, n1Blades, scalar, pseudoscalar, packing, ofParity, spread, bladesOfSide}
 use Rattle.masks.specs.Unpack.{choose, halfMasks, unpackAll, halfOf, unpackHalf, unpackOwnHalf, unpackVector}
 use Rattle.masks.proofs.OrderLaws.{length-order, size-zero, rank, grade-has, place-ranked, place-lt, order-place, order-at, blades-le, take-masks, built-masks}
-use Rattle.masks.proofs.RefusalLaws.{unless-done}
+use Rattle.masks.proofs.OutcomeLaws.{unless-done, passes}
 use Rattle.masks.proofs.ShapeLaws.{coef-inside, coef-outside, negated-other, ordered}
-use Rattle.masks.proofs.ChangeLaws.{passes}
 use Rattle.masks.proofs.BladeLaws.{get-blade-done}
 use Rattle.masks.proofs.BuildLaws.{padded-at, lt-blades, start-one, size-one, size-last, size-before-last, grade-fits, vector-fits, length-grade-set, choose-has, choose-lacks, choose-le, choose-next, choose-skip, half-count, half-twice, half-some, length-half-set, spread-has, spread-lacks, Packs, packing-fits, one-built, n1-one, full-built, half-built, grade-built}
 

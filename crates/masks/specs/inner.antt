@@ -1,5 +1,4 @@
 -- What only the contracts of private functions cite: a reader need not believe it.
-pub mod Counts
 pub mod Gather
-pub mod Passes
+pub mod Order
 pub mod Text

@@ -24,7 +24,7 @@ use Rattle.masks.specs.Order.{order, indexOf, place, upFrom, grade, gradesBelow
 use Rattle.masks.specs.Flavor.{metricOf}
 use Rattle.masks.specs.Outcome.{shapeOf, unless, refusal, nought}
 use Rattle.masks.specs.Shape.{coef, negates, resized, promotes, promoted, conform, conformed, conformedShape}
-use Rattle.masks.proofs.Computed.{upto, upto-at, both}
+use Rattle.masks.proofs.ListLaws.{upto, upto-at, both}
 use Rattle.product.specs.declared.mode.Mode.{Mode}
 use Rattle.product.specs.declared.mode.Mode.the-variants.{All, Left, Right, Inner, Outer}
 use Rattle.product.specs.Mode.{takes, flavorFor, pairMetric}

@@ -16,11 +16,9 @@ use Rattle.masks.specs.declared.shape.Shape.{Shape}
 use Rattle.masks.specs.declared.outcome.Answers.{Answers}
 use Rattle.masks.specs.Outcome.{Pair, GivesBoth, laid, refusal, unless, pairTests}
 use Rattle.masks.specs.Shape.{promotes, resized, conformed, conformedShape, conform}
-use Rattle.masks.proofs.ListLaws.{take-laid}
-use Rattle.masks.proofs.RefusalLaws.{unless-done}
-use Rattle.masks.proofs.ChangeLaws.{Passed, passed, paired, conformed-none}
-use Rattle.masks.proofs.ShapeLaws.{resized-same, resized-length}
-use Rattle.masks.proofs.Computed.{both}
+use Rattle.masks.proofs.ListLaws.{take-laid, both}
+use Rattle.masks.proofs.OutcomeLaws.{unless-done, Passed, passed}
+use Rattle.masks.proofs.ShapeLaws.{resized-same, resized-length, paired, conformed-none}
 use Rattle.product.proofs.ProductsRefusals.{gives-refusal, pair-accepted, up, upRight, conformTests, pair, conform-number, conform-done, conform-product, refused-anyway, refused-for-room, roomy-enough, multiplied-refused}
 use Rattle.product.specs.declared.outcome.Product.{Product}
 use Rattle.product.specs.declared.mode.Mode.{Mode}

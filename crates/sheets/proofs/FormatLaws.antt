@@ -13,9 +13,9 @@ use Rattle.masks.specs.declared.flavor.Flavor.the-variants.{Vanilla, Projective
 use Rattle.masks.specs.declared.shape.Shape.{Shape}
 use Rattle.masks.specs.Outcome.{shapeOf, refusal}
 use Rattle.masks.specs.Text.{same}
-use Rattle.masks.proofs.Computed.{same-eq}
+use Rattle.masks.proofs.ListLaws.{same-eq}
 use Rattle.masks.proofs.OrderLaws.{blades-le}
-use Rattle.masks.proofs.RefusalLaws.{past}
+use Rattle.masks.proofs.OutcomeLaws.{past}
 use Rattle.sheets.specs.Format.{Sheet, flavorBytes, shapeBytes, patternBytes, sheetBytes, anyAboveNine, bladeTotal, limits}
 use Rattle.sheets.specs.Read.{shapeFrom, flavorFrom, isSheet}
 use Rattle.sheets.proofs.BytesLaws.{littleEndian-length, section-length}

@@ -13,8 +13,7 @@ use Rattle.masks.specs.declared.flavor.Flavor.the-variants.{Vanilla}
 use Rattle.masks.specs.declared.shape.Shape.{Shape}
 use Rattle.masks.specs.Outcome.{refusal, unless, shapeOf}
 use Rattle.masks.specs.Text.{same}
-use Rattle.masks.proofs.Computed.{both-true}
-use Rattle.masks.proofs.ListLaws.{getD-map}
+use Rattle.masks.proofs.ListLaws.{getD-map, both-true}
 use Rattle.sheets.specs.declared.read.SheetRead.{SheetRead}
 use Rattle.sheets.specs.Bytes.{littleEndian, fromLittleEndian, section, parts, countIn, itemsIn, afterSection}
 use Rattle.sheets.specs.Format.{Sheet, shapeBytes, patternBytes, sheetBytes, bladeTotal, anyAboveNine}

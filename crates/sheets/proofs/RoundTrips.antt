@@ -15,7 +15,7 @@ use Rattle.masks.specs.declared.outcome.Count.{Count}
 use Rattle.sheets.specs.declared.read.SheetRead.{SheetRead}
 use Rattle.masks.specs.Text.{same}
 use Rattle.masks.proofs.ListLaws.{split, take-laid}
-use Rattle.masks.proofs.RefusalLaws.{past, unless-done, unless-number}
+use Rattle.masks.proofs.OutcomeLaws.{past, unless-done, unless-number}
 use Rattle.sheets.specs.declared.shapes.Shapes.{Shapes}
 use Rattle.sheets.specs.Bytes.{fromLittleEndian, section, parts, itemsIn, afterSection}
 use Rattle.sheets.specs.Format.{Sheet, shapeBytes, patternBytes, sheetBytes, bladeTotal, limits}

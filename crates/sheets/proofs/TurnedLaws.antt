@@ -7,7 +7,7 @@ use lib.ListN.{length, getD, set, length-map}
 use borrow.Author.Tests.{lt-ltb, le-ltb}
 use Rattle.masks.specs.Outcome.{refusal, Writes}
 use Rattle.masks.proofs.ListLaws.{getD-map, front, front-length, front-step, front-all}
-use Rattle.masks.proofs.RefusalLaws.{writes-refused, writes-done}
+use Rattle.masks.proofs.OutcomeLaws.{writes-refused, writes-done}
 use Rattle.sheets.specs.Patterns.{converted}
 
 module _ {A B : Type 0} (f : A → B) (xs : List A) (out : List B) where

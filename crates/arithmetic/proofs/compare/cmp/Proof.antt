@@ -1,7 +1,7 @@
 -- `arithmetic::compare::cmp` meets its contract: what is not refused has the numbers of its dimensions. Assumes nothing.
 use mathlib.Core.Path.{sym}
 use borrow.Author.Needs.{needs}
-use Rattle.masks.proofs.RefusalLaws.{unless-refused, unless-done}
+use Rattle.masks.proofs.OutcomeLaws.{unless-refused, unless-done}
 use Rattle.arithmetic.specs.Compare.{refusedOrdered, compared}
 use Rattle.arithmetic.proofs.CompareLaws.{both-counted}
 use Rattle.arithmetic.proofs.compare.cmp.Statement.{statement}

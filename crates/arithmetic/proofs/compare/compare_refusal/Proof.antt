@@ -6,7 +6,7 @@ use borrow.Author.Needs.{needs}
 use borrow.Author.Tests.{le-ltb}
 use Rattle.masks.specs.Outcome.{refusal, tooMany, wrongCount, noRoom}
 use Rattle.masks.proofs.OrderLaws.{blades-le}
-use Rattle.masks.proofs.RefusalLaws.{later-same}
+use Rattle.masks.proofs.OutcomeLaws.{later-same}
 use Rattle.arithmetic.proofs.compare.compare_refusal.Statement.{statement}
 use Rattle.arithmetic.proofs.compare.compare_refusal.Tie as tie
 

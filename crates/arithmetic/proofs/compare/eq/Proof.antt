@@ -2,7 +2,7 @@
 use mathlib.Core.Path.{_≡_, sym}
 use mathlib.Core.Bool.{Bool, _||_}
 use borrow.Author.Needs.{needs}
-use Rattle.masks.proofs.RefusalLaws.{unless-refused, unless-done}
+use Rattle.masks.proofs.OutcomeLaws.{unless-refused, unless-done}
 use Rattle.arithmetic.specs.Compare.{samePlaces, refusedYesNo, equals}
 use Rattle.arithmetic.proofs.CompareLaws.{both-counted}
 use Rattle.arithmetic.proofs.compare.eq.Statement.{statement}

@@ -2,10 +2,10 @@
 use mathlib.Core.Path.{sym, _∙_}
 use borrow.Author.Needs.{needs}
 use lib.ListN.{length}
-use Rattle.masks.proofs.ChangeLaws.{passed}
 use Rattle.arithmetic.proofs.DualRegressive.{meeting-refused}
 use Rattle.arithmetic.proofs.dual.regressive_product.Statement.{statement}
 use Rattle.arithmetic.proofs.dual.regressive_product.Tie as tie
+use Rattle.masks.proofs.OutcomeLaws.{passed}
 
 joined-refusal-requires : tie.Need-joined-refusal-requires
 joined-refusal-requires c κs = search needs

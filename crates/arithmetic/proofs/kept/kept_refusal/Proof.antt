@@ -1,8 +1,8 @@
 -- `arithmetic::kept::kept_refusal` meets its contract: its tests are those of a change to the value's own dimensions. Assumes nothing.
 use mathlib.Core.Path.{_∙_}
 use borrow.Author.Needs.{needs}
+use Rattle.masks.proofs.OutcomeLaws.{checked}
 use Rattle.masks.proofs.OrderLaws.{blades-counted}
-use Rattle.masks.proofs.ChangeLaws.{checked}
 use Rattle.arithmetic.proofs.KeptLaws.{kept-tests}
 use Rattle.arithmetic.proofs.kept.kept_refusal.Statement.{statement}
 use Rattle.arithmetic.proofs.kept.kept_refusal.Tie as tie

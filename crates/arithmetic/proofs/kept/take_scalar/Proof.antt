@@ -11,7 +11,7 @@ use Rattle.masks.specs.declared.shape.Shape.{Shape}
 use Rattle.masks.specs.declared.outcome.Answer.{Answer}
 use Rattle.masks.specs.Outcome.{Gives, nought, refusal}
 use Rattle.masks.specs.Shape.{setDims}
-use Rattle.masks.proofs.RefusalLaws.{unless-refused, unless-done}
+use Rattle.masks.proofs.OutcomeLaws.{unless-refused, unless-done}
 use Rattle.arithmetic.specs.declared.outcome.Taken.{Taken}
 use Rattle.arithmetic.specs.Kept.{keptTests, withoutScalar, takeScalar, GivesTaken}
 use Rattle.arithmetic.proofs.KeptLaws.{kept-accepted, accepted-kept, copy-refused, copy-accepted, copy-laid, copy-room, copy-done, copy-changed, set-laid}

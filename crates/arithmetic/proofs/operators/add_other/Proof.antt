@@ -10,9 +10,9 @@ use Rattle.masks.specs.declared.outcome.Answer.{Answer}
 use Rattle.masks.specs.declared.outcome.Answers.{Answers}
 use Rattle.masks.specs.Outcome.{Pair, Gives, GivesBoth, unless, answerOf, value, refusedValue, refusedPair, laid}
 use Rattle.masks.specs.Shape.{conformedShape, conform}
+use Rattle.masks.proofs.ShapeLaws.{paired, conform-dims, conform-lengths}
 use Rattle.masks.proofs.ListLaws.{take-laid}
 use Rattle.masks.proofs.OrderLaws.{blades-le, blades-counted}
-use Rattle.masks.proofs.ChangeLaws.{paired, conform-dims, conform-lengths}
 use Rattle.product.specs.Products.{meetingDims}
 use Rattle.product.proofs.ListLaws.{laid-over}
 use Rattle.arithmetic.specs.declared.operators.Sum.{Sum}

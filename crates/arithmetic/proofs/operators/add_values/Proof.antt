@@ -9,7 +9,7 @@ use Rattle.masks.specs.declared.shape.Shape.{Shape}
 use Rattle.masks.specs.declared.outcome.Answer.{Answer}
 use Rattle.masks.specs.Outcome.{Outcome, Gives, refusal}
 use Rattle.masks.specs.Shape.{conformTo, conform}
-use Rattle.masks.proofs.RefusalLaws.{gives-refused}
+use Rattle.masks.proofs.OutcomeLaws.{gives-refused}
 use Rattle.arithmetic.specs.declared.operators.Sum.{Sum}
 use Rattle.arithmetic.specs.declared.scalar.ScalarTest.{ScalarTest}
 use Rattle.arithmetic.specs.declared.scalar.ScalarTest.the-variants.{Scalar, Planar, Neither}

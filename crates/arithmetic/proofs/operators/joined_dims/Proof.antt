@@ -7,7 +7,7 @@ use native.Mathlib.Nat.{add-zero, max-eq-left, max-eq-right}
 use native.Mathlib.Omega.{arith}
 use Rattle.masks.specs.declared.shape.Shape.{Shape}
 use Rattle.masks.specs.Shape.{promotes}
-use Rattle.masks.proofs.ChangeLaws.{promotes-le}
+use Rattle.masks.proofs.ShapeLaws.{promotes-le}
 use Rattle.arithmetic.specs.Operators.{joinedDims}
 use borrow.Author.Needs.{needs}
 use Rattle.arithmetic.proofs.operators.joined_dims.Statement.{statement}

@@ -4,7 +4,7 @@ use mathlib.Core.List.{[], _∷_}
 use Prim.Native.Nat.{ℕ, _^_, _≤_}
 use lib.ListN.{length}
 use Rattle.masks.specs.Outcome.{refusal, tooMany, wrongCount, noRoom, pairTests}
-use Rattle.masks.proofs.RefusalLaws.{later-same}
+use Rattle.masks.proofs.OutcomeLaws.{later-same}
 use borrow.Author.Needs.{needs}
 use Rattle.arithmetic.proofs.operators.joined_refusal.Statement.{statement}
 use Rattle.arithmetic.proofs.operators.joined_refusal.Tie as tie

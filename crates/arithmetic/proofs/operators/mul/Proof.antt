@@ -7,7 +7,7 @@ use Rattle.masks.specs.declared.shape.Shape.{Shape}
 use Rattle.masks.specs.declared.outcome.Answer.{Answer}
 use Rattle.masks.specs.Outcome.{Gives, refusal}
 use Rattle.masks.specs.Shape.{conformTo}
-use Rattle.masks.proofs.RefusalLaws.{gives-refused}
+use Rattle.masks.proofs.OutcomeLaws.{gives-refused}
 use Rattle.product.specs.Products.{generalProduct}
 use Rattle.arithmetic.specs.declared.scalar.ScalarTest.{ScalarTest}
 use Rattle.arithmetic.specs.declared.scalar.ScalarTest.the-variants.{Scalar, Planar, Neither}

@@ -8,7 +8,7 @@ use lib.Ieee.{Float}
 use lib.ListN.{length}
 use Rattle.masks.specs.declared.shape.Shape.{Shape}
 use Rattle.masks.specs.Outcome.{refusal, tooMany, wrongCount, noRoom}
-use Rattle.masks.proofs.RefusalLaws.{later-same}
+use Rattle.masks.proofs.OutcomeLaws.{later-same}
 use Rattle.arithmetic.specs.Operators.{pairTests, isOther, joinedDims, resultDims, operatorTests}
 use Rattle.arithmetic.proofs.operators.operator_refusal.Statement.{statement}
 use Rattle.arithmetic.proofs.operators.operator_refusal.Tie as tie

@@ -15,8 +15,7 @@ use mir.ValLaws.{toZ-ofZ}
 use Rattle.masks.specs.declared.shape.Shape.{Shape}
 use Rattle.masks.specs.Outcome.{refusal, resultTests}
 use Rattle.masks.proofs.OrderLaws.{blades-counted}
-use Rattle.masks.proofs.ChangeLaws.{checked, result-tests-same}
-use Rattle.masks.proofs.RefusalLaws.{taken, refused-already}
+use Rattle.masks.proofs.OutcomeLaws.{taken, refused-already, checked, result-tests-same}
 use Rattle.arithmetic.specs.Scalar.{testOf, wasPlanar}
 use Rattle.arithmetic.specs.Power.{isNegative, sizeOf, powerDims, powerTests}
 use Rattle.arithmetic.proofs.PowerLaws.{below-zero, and-both, not-both, PowerAccepted, refused-five, refused-six, refused-none}

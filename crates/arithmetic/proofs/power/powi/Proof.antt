@@ -15,7 +15,7 @@ use Rattle.masks.specs.declared.outcome.Answer.{Answer}
 use Rattle.masks.specs.declared.shape.Shape.{Shape}
 use Rattle.masks.specs.Outcome.{Gives, laid, value, refusedValue, answerOf, refusal}
 use Rattle.masks.specs.Shape.{withDims}
-use Rattle.masks.proofs.RefusalLaws.{gives-refused, gives-done}
+use Rattle.masks.proofs.OutcomeLaws.{gives-refused, gives-done}
 use Rattle.arithmetic.specs.Scalar.{testOf, wasPlanar}
 use Rattle.arithmetic.specs.Power.{isNegative, sizeOf, powerDims, powerOf, powerTests, power}
 use Rattle.arithmetic.proofs.PowerLaws.{PowerAccepted, none-refused}

@@ -11,8 +11,7 @@ use lib.ListN.{length}
 use Rattle.masks.specs.declared.shape.Shape.{Shape}
 use Rattle.masks.specs.declared.outcome.Answer.{Answer}
 use Rattle.masks.specs.Outcome.{Outcome, Gives, refusal, tooMany, wrongCount, noRoom, refusedValue, answerOf}
-use Rattle.masks.proofs.RefusalLaws.{past, later-same, refused-already, gives-refused}
-use Rattle.masks.proofs.ChangeLaws.{passed}
+use Rattle.masks.proofs.OutcomeLaws.{past, later-same, refused-already, gives-refused, passed}
 use Rattle.arithmetic.specs.Scalar.{testOf, wasPlanar}
 use Rattle.arithmetic.specs.Operators.{pairTests, isOther}
 use Rattle.arithmetic.specs.Quotient.{quotientDims, quotient}

@@ -3,7 +3,7 @@ use mathlib.Core.Path.{_≡_, sym, ap, _∙_}
 use borrow.Author.Needs.{needs}
 use Rattle.masks.specs.declared.shape.Shape.{Shape}
 use Rattle.masks.specs.Blade.{gradeRefusal}
-use Rattle.masks.proofs.RefusalLaws.{unless-refused, unless-done}
+use Rattle.masks.proofs.OutcomeLaws.{unless-refused, unless-done}
 use Rattle.masks.proofs.BladeLaws.{Graded, graded}
 use Rattle.exports.specs.Numbers.{shaped}
 use Rattle.exports.specs.Told.{told}

@@ -5,7 +5,7 @@ use native.Mathlib.Omega.{arith}
 use borrow.Author.Needs.{needs}
 use lib.ListN.{length}
 use Rattle.masks.specs.Build.{n1Blades}
-use Rattle.masks.proofs.RefusalLaws.{gives-refused}
+use Rattle.masks.proofs.OutcomeLaws.{gives-refused}
 use Rattle.masks.proofs.BuildLaws.{few, n1-one, grade-fits, size-before-last}
 use Rattle.masks.proofs.build.n_1_blades.Statement.{statement}
 use Rattle.masks.proofs.build.n_1_blades.Tie as tie

@@ -7,7 +7,7 @@ use borrow.Author.Needs.{needs}
 use lib.ListN.{length}
 use Rattle.masks.specs.Outcome.{value, answerOf}
 use Rattle.masks.specs.Build.{oneGrade}
-use Rattle.masks.proofs.RefusalLaws.{gives-refused, gives-done}
+use Rattle.masks.proofs.OutcomeLaws.{gives-refused, gives-done}
 use Rattle.masks.proofs.BuildLaws.{built-taken}
 use Rattle.masks.proofs.build.one_grade.Statement.{statement}
 use Rattle.masks.proofs.build.one_grade.Tie as tie

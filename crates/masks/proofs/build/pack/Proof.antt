@@ -13,7 +13,7 @@ use Rattle.masks.specs.declared.build.Packing.the-variants.{Full, Half, 
 use Rattle.masks.specs.Outcome.{value, answerOf}
 use Rattle.masks.specs.Build.{bladesOfSide, packing, unpacked}
 use Rattle.masks.proofs.build.Packing.{the-type}
-use Rattle.masks.proofs.RefusalLaws.{gives-refused, gives-done}
+use Rattle.masks.proofs.OutcomeLaws.{gives-refused, gives-done}
 use Rattle.masks.proofs.BuildLaws.{Packs, packing-fits, grade-fits, pack-wide, pack-none, pack-short, pack-done}
 use Rattle.masks.proofs.build.pack.Statement.{statement}
 use Rattle.masks.proofs.build.pack.Tie as tie

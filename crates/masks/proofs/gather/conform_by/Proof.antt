@@ -8,8 +8,7 @@ use lib.Seq.{length-take-le}
 use Rattle.masks.specs.Order.{masksOf}
 use Rattle.masks.specs.Outcome.{laid}
 use Rattle.masks.proofs.OrderLaws.{blades-le, built-masks, built-places}
-use Rattle.masks.proofs.ShapeLaws.{one, promoted-one}
-use Rattle.masks.proofs.ChangeLaws.{conformed-none, conformed-same, conformed-one}
+use Rattle.masks.proofs.ShapeLaws.{one, promoted-one, conformed-none, conformed-same, conformed-one}
 use Rattle.masks.proofs.gather.conform_by.Statement.{statement}
 use Rattle.masks.proofs.gather.conform_by.Tie as tie
 

@@ -6,8 +6,7 @@ use borrow.Author.Needs.{needs}
 use lib.ListN.{length}
 use Rattle.masks.specs.Outcome.{laid}
 use Rattle.masks.proofs.OrderLaws.{built-masks, built-places}
-use Rattle.masks.proofs.ShapeLaws.{promoted-none}
-use Rattle.masks.proofs.ChangeLaws.{conformed-same}
+use Rattle.masks.proofs.ShapeLaws.{promoted-none, conformed-same}
 use Rattle.masks.proofs.gather.conform_one.Statement.{statement}
 use Rattle.masks.proofs.gather.conform_one.Tie as tie
 

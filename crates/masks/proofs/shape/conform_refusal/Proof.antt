@@ -7,8 +7,8 @@ use borrow.Author.Needs.{needs}
 use borrow.Author.Tests.{lt-ltb, le-ltb}
 use Rattle.masks.specs.Shape.{bothTests}
 use Rattle.masks.specs.Outcome.{refusal, noRoom, pairTests}
-use Rattle.masks.proofs.RefusalLaws.{refused-already, refused-first, refused-later}
-use Rattle.masks.proofs.ChangeLaws.{passed, second-room}
+use Rattle.masks.proofs.ShapeLaws.{second-room}
+use Rattle.masks.proofs.OutcomeLaws.{refused-already, refused-first, refused-later, passed}
 use Rattle.masks.proofs.shape.conform_refusal.Statement.{statement}
 use Rattle.masks.proofs.shape.conform_refusal.Tie as tie
 

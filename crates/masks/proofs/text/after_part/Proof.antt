@@ -2,7 +2,7 @@
 use mathlib.Core.Path.{_∙_}
 use borrow.Author.Needs.{needs}
 use Rattle.masks.specs.Text.{afterPart}
-use Rattle.masks.proofs.ScanLaws.{rest-all}
+use Rattle.masks.proofs.TextScan.{rest-all}
 use Rattle.masks.proofs.text.after_part.Statement.{statement}
 use Rattle.masks.proofs.text.after_part.Tie as tie
 

@@ -7,7 +7,7 @@ use lib.ListN.{length, take}
 use lib.Seq.{take-length}
 use borrow.Author.Tests.{not-true, not-false}
 use Rattle.masks.specs.Text.{blank, dropWhile}
-use Rattle.masks.proofs.ScanLaws.{back-on, back-stop, back-end}
+use Rattle.masks.proofs.TextScan.{back-on, back-stop, back-end}
 use Rattle.masks.proofs.text.cut_blanks.Statement.{statement}
 use Rattle.masks.proofs.text.cut_blanks.Tie as tie
 

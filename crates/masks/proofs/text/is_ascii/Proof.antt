@@ -2,7 +2,7 @@
 use borrow.Author.Needs.{needs}
 use Rattle.masks.specs.declared.text.ByteTest.the-variants.{Ascii}
 use Rattle.masks.specs.inner.Text.{passesTest}
-use Rattle.masks.proofs.ScanLaws.{stopped-every}
+use Rattle.masks.proofs.TextScan.{stopped-every}
 use Rattle.masks.proofs.text.is_ascii.Statement.{statement}
 use Rattle.masks.proofs.text.is_ascii.Tie as tie
 

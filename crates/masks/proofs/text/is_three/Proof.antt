@@ -8,7 +8,7 @@ use lib.ListN.{length, getD}
 use borrow.Author.Needs.{needs}
 use borrow.Author.Tests.{eq-eqb, ne-eqb}
 use Rattle.masks.specs.Text.{same}
-use Rattle.masks.proofs.ScanLaws.{same-three, same-not}
+use Rattle.masks.proofs.TextScan.{same-three, same-not}
 use Rattle.masks.proofs.text.is_three.Statement.{statement}
 use Rattle.masks.proofs.text.is_three.Tie as tie
 

@@ -7,7 +7,7 @@ use native.Mathlib.Omega.{arith}
 use lib.ListN.{length, getD}
 use borrow.Author.Needs.{needs}
 use Rattle.masks.specs.Text.{octetOf, octet}
-use Rattle.masks.proofs.ScanLaws.{rest-all}
+use Rattle.masks.proofs.TextScan.{rest-all}
 use Rattle.masks.proofs.TextLaws.{unsigned-plus, unsigned-not}
 use Rattle.masks.proofs.text.octet_in.Statement.{statement}
 use Rattle.masks.proofs.text.octet_in.Tie as tie

@@ -9,7 +9,7 @@ use borrow.Author.Needs.{needs}
 use borrow.Author.Tests.{eq-eqb, ne-eqb}
 use Rattle.masks.specs.inner.Text.{specOf, readCl}
 use Rattle.masks.specs.Text.{same, trimmed, refusedRead}
-use Rattle.masks.proofs.ScanLaws.{rest-all, same-two, same-not}
+use Rattle.masks.proofs.TextScan.{rest-all, same-two, same-not}
 use Rattle.masks.proofs.text.read_cl.Statement.{statement}
 use Rattle.masks.proofs.text.read_cl.Tie as tie
 

@@ -5,7 +5,7 @@ use native.Mathlib.Omega.{arith}
 use lib.ListN.{length}
 use borrow.Author.Tests.{not-true, not-false}
 use Rattle.masks.specs.inner.Text.{passesTest}
-use Rattle.masks.proofs.ScanLaws.{Scanned, scan-on, scan-stop, scan-end}
+use Rattle.masks.proofs.TextScan.{Scanned, scan-on, scan-stop, scan-end}
 use Rattle.masks.proofs.text.skip.Statement.{statement}
 use Rattle.masks.proofs.text.skip.Tie as tie
 

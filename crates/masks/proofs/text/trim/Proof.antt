@@ -6,7 +6,7 @@ use native.Mathlib.Nat.{sub-zero}
 use lib.ListN.{length, take, drop}
 use borrow.Author.Needs.{needs}
 use Rattle.masks.specs.Text.{blank, dropWhile, trimmed}
-use Rattle.masks.proofs.ScanLaws.{rest-all}
+use Rattle.masks.proofs.TextScan.{rest-all}
 use Rattle.masks.proofs.text.trim.Statement.{statement}
 use Rattle.masks.proofs.text.trim.Tie as tie
 

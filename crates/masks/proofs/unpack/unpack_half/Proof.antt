@@ -7,7 +7,7 @@ use lib.ListN.{length}
 use Rattle.masks.specs.Outcome.{refusal, resultTests}
 use Rattle.masks.specs.Shape.{coef}
 use Rattle.masks.specs.Unpack.{halfOf, halfMasks}
-use Rattle.masks.proofs.RefusalLaws.{Taken, taken, needed-same, writes-refused, writes-done}
+use Rattle.masks.proofs.OutcomeLaws.{Taken, taken, needed-same, writes-refused, writes-done}
 use Rattle.masks.proofs.UnpackLaws.{length-half, counts}
 use Rattle.masks.proofs.unpack.unpack_half.Statement.{statement}
 use Rattle.masks.proofs.unpack.unpack_half.Tie as tie

@@ -4,10 +4,10 @@ use Prim.Native.Nat.{ℕ, _*_, _%_}
 use lib.Dec.{T, eqb, eqb→eq}
 use lib.Bits.{bitAnd, bitXor}
 use Rattle.clifford.specs.Blade.{has, count}
-use Rattle.masks.proofs.Computed.{upto, upto-at}
 use Rattle.product.specs.inner.Metric.{maskOf, oddBelow}
 use Rattle.product.proofs.metric.below_bits.Statement.{statement}
 use Rattle.product.proofs.metric.below_bits.Tie as tie
+use Rattle.masks.proofs.ListLaws.{upto, upto-at}
 
 -- x ^ x << k, where p is 2 ^ k.
 fold : ℕ → ℕ → ℕ

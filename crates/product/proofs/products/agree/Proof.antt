@@ -6,9 +6,9 @@ use native.Mathlib.Omega.{arith}
 use borrow.Author.Needs.{needs}
 use borrow.Author.Tests.{eq-eqb, ne-eqb}
 use lib.Dec.{eqb}
-use Rattle.masks.proofs.ChangeLaws.{promotes-le}
 use Rattle.product.proofs.products.agree.Statement.{statement}
 use Rattle.product.proofs.products.agree.Tie as tie
+use Rattle.masks.proofs.ShapeLaws.{promotes-le}
 
 promotion-requires : tie.Need-promotion-requires
 promotion-requires c κs = search needs

@@ -4,10 +4,10 @@ use Prim.Native.Nat.{ℕ, _^_}
 use lib.ListN.{length}
 use borrow.Author.Needs.{needs}
 use borrow.Author.Tests.{not-false}
-use Rattle.masks.proofs.ChangeLaws.{passed}
 use Rattle.product.proofs.ProductsLaws.{agreeing, gives-agreeing-refused, gives-agreeing}
 use Rattle.product.proofs.products.multiply.Statement.{statement}
 use Rattle.product.proofs.products.multiply.Tie as tie
+use Rattle.masks.proofs.OutcomeLaws.{passed}
 
 agree-requires : tie.Need-agree-requires
 agree-requires c κs = search needs

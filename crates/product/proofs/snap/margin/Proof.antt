@@ -7,9 +7,9 @@ use lib.Dec.{T, ltb, leb, ltb→lt, leb→le}
 use borrow.Author.Needs.{needs}
 use Rattle.rounding.specs.Snap.{tinyNum, tinyExp}
 use Rattle.rounding.specs.inner.SnapBits.{Margin}
-use Rattle.masks.proofs.Computed.{upto, upto-at, both}
 use Rattle.product.proofs.snap.margin.Statement.{statement}
 use Rattle.product.proofs.snap.margin.Tie as tie
+use Rattle.masks.proofs.ListLaws.{upto, upto-at, both}
 
 right : ℕ → ℕ → Bool
 right k n = ltb (n * 2 ^ tinyExp) (tinyNum * 2 ^ k) && leb (tinyNum * 2 ^ k) (suc n * 2 ^ tinyExp)

@@ -9,7 +9,7 @@ use lib.ListN.{length, take, length-map}
 use borrow.Author.Tests.{lt-ltb, le-ltb, eq-eqb, ne-eqb}
 use borrow.Author.Needs.{needs}
 use Rattle.masks.specs.Outcome.{Test, refusal}
-use Rattle.masks.proofs.RefusalLaws.{refused-first, refused-later}
+use Rattle.masks.proofs.OutcomeLaws.{refused-first, refused-later}
 use Rattle.sheets.specs.Format.{anyAboveNine, bladeTotal, limits}
 use Rattle.sheets.specs.Shapes.{listedShapes}
 use Rattle.sheets.proofs.WritingLaws.{listed-most}

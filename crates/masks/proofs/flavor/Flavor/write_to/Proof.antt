@@ -8,7 +8,7 @@ use borrow.Author.Needs.{needs}
 use borrow.Author.Tests.{lt-ltb, le-ltb}
 use Rattle.masks.specs.Outcome.{noRoom, refusal}
 use Rattle.masks.specs.Text.{textOf, writeFlavor}
-use Rattle.masks.proofs.RefusalLaws.{refused-first, refused-later, writes-refused, writes-done}
+use Rattle.masks.proofs.OutcomeLaws.{refused-first, refused-later, writes-refused, writes-done}
 use Rattle.masks.proofs.flavor.Flavor.write_to.Statement.{statement}
 use Rattle.masks.proofs.flavor.Flavor.write_to.Tie as tie
 

@@ -12,7 +12,7 @@ use Rattle.masks.specs.Outcome.{laid, Gives}
 use Rattle.masks.specs.Shape.{withDims}
 use Rattle.masks.specs.Blade.{setBlade}
 use Rattle.masks.proofs.OrderLaws.{blades-le, built-masks, built-places}
-use Rattle.masks.proofs.RefusalLaws.{gives-refused, gives-done}
+use Rattle.masks.proofs.OutcomeLaws.{gives-refused, gives-done}
 use Rattle.masks.proofs.ShapeLaws.{resized-held}
 use Rattle.masks.proofs.BladeLaws.{below-nine, dims-here, blade-here, Placed, placed, blade-grown}
 use Rattle.masks.proofs.shape.Shape.set_blade.Reads as set-blade

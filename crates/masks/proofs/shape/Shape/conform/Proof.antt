@@ -6,8 +6,8 @@ use borrow.Author.Needs.{needs}
 use lib.ListN.{length}
 use Rattle.masks.specs.Outcome.{refusal, laid}
 use Rattle.masks.specs.Shape.{promotes, conformed, conformedShape, conform, bothTests}
-use Rattle.masks.proofs.RefusalLaws.{gives-both-refused, gives-both-done}
-use Rattle.masks.proofs.ChangeLaws.{promotes-le, promoted-small, both-tests-same, Paired, paired}
+use Rattle.masks.proofs.ShapeLaws.{promotes-le, promoted-small, both-tests-same, Paired, paired}
+use Rattle.masks.proofs.OutcomeLaws.{gives-both-refused, gives-both-done}
 use Rattle.masks.proofs.shape.Shape.conform.Statement.{statement}
 use Rattle.masks.proofs.shape.Shape.conform.Tie as tie
 

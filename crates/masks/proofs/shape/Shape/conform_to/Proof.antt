@@ -6,9 +6,9 @@ use borrow.Author.Needs.{needs}
 use lib.ListN.{length}
 use Rattle.masks.specs.Outcome.{refusal, laid, resultTests}
 use Rattle.masks.specs.Shape.{promotes, conformed, conformedShape, conformTo}
+use Rattle.masks.proofs.ShapeLaws.{promotes-le, promoted-small}
 use Rattle.masks.proofs.OrderLaws.{none-counted}
-use Rattle.masks.proofs.RefusalLaws.{Taken, taken, gives-refused, gives-done}
-use Rattle.masks.proofs.ChangeLaws.{promotes-le, promoted-small, checked, result-tests-same}
+use Rattle.masks.proofs.OutcomeLaws.{Taken, taken, gives-refused, gives-done, checked, result-tests-same}
 use Rattle.masks.proofs.shape.Shape.conform_to.Statement.{statement}
 use Rattle.masks.proofs.shape.Shape.conform_to.Tie as tie
 

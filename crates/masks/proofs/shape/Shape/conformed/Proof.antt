@@ -2,7 +2,7 @@
 use mathlib.Core.Path.{ap, _∙_}
 use borrow.Author.Needs.{needs}
 use Rattle.masks.specs.Shape.{withDims, withFlavor, conformedShape}
-use Rattle.masks.proofs.ChangeLaws.{flavor-one}
+use Rattle.masks.proofs.ShapeLaws.{flavor-one}
 use Rattle.masks.proofs.shape.Shape.conformed.Statement.{statement}
 use Rattle.masks.proofs.shape.Shape.conformed.Tie as tie
 

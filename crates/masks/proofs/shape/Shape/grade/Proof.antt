@@ -7,7 +7,7 @@ use borrow.Author.Needs.{needs}
 use lib.ListN.{length}
 use Rattle.masks.specs.Blade.{gradePart}
 use Rattle.masks.proofs.OrderLaws.{part-fits}
-use Rattle.masks.proofs.RefusalLaws.{unless-refused, unless-done}
+use Rattle.masks.proofs.OutcomeLaws.{unless-refused, unless-done}
 use Rattle.masks.proofs.BladeLaws.{Graded, graded, part-eq}
 use Rattle.masks.proofs.shape.Shape.grade.Statement.{statement}
 use Rattle.masks.proofs.shape.Shape.grade.Tie as tie

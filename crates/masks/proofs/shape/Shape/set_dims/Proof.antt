@@ -6,9 +6,9 @@ use borrow.Author.Needs.{needs}
 use lib.ListN.{length}
 use Rattle.masks.specs.Outcome.{refusal, laid, resultTests}
 use Rattle.masks.specs.Shape.{setDims}
+use Rattle.masks.proofs.ShapeLaws.{conformed-none}
 use Rattle.masks.proofs.OrderLaws.{none-counted}
-use Rattle.masks.proofs.RefusalLaws.{Taken, taken, gives-refused, gives-done}
-use Rattle.masks.proofs.ChangeLaws.{checked, conformed-none}
+use Rattle.masks.proofs.OutcomeLaws.{Taken, taken, gives-refused, gives-done, checked}
 use Rattle.masks.proofs.shape.Shape.set_dims.Statement.{statement}
 use Rattle.masks.proofs.shape.Shape.set_dims.Tie as tie
 

@@ -8,8 +8,7 @@ use Rattle.masks.specs.Order.{order}
 use Rattle.masks.specs.Shape.{coef}
 use Rattle.masks.specs.Unpack.{unpackAll}
 use Rattle.masks.proofs.OrderLaws.{length-order, none-counted}
-use Rattle.masks.proofs.RefusalLaws.{Taken, taken, writes-refused, writes-done}
-use Rattle.masks.proofs.ChangeLaws.{checked}
+use Rattle.masks.proofs.OutcomeLaws.{Taken, taken, writes-refused, writes-done, checked}
 use Rattle.masks.proofs.UnpackLaws.{counts}
 use Rattle.masks.proofs.shape.Shape.unpack_all.Statement.{statement}
 use Rattle.masks.proofs.shape.Shape.unpack_all.Tie as tie

@@ -8,7 +8,7 @@ use Rattle.masks.specs.Order.{order}
 use Rattle.masks.specs.Shape.{coef}
 use Rattle.masks.specs.Unpack.{unpackVector}
 use Rattle.masks.proofs.OrderLaws.{built-masks, built-places}
-use Rattle.masks.proofs.RefusalLaws.{Taken, taken, writes-refused, writes-done}
+use Rattle.masks.proofs.OutcomeLaws.{Taken, taken, writes-refused, writes-done}
 use Rattle.masks.proofs.UnpackLaws.{vector-read, vector-length, counts}
 use Rattle.masks.proofs.shape.Shape.unpack_vector.Statement.{statement}
 use Rattle.masks.proofs.shape.Shape.unpack_vector.Tie as tie

@@ -5,11 +5,11 @@ use mathlib.Core.List.{List, [], _∷_, _++_}
 use Prim.Native.Nat.{ℕ, zero, suc, _^_, _≤_}
 use native.Mathlib.Omega.{arith}
 use lib.Ieee.{Float}
-use borrow.Author.Tests.{ltb-false, eqb-true, not-false}
+use borrow.Author.Tests.{le-ltb, ltb-false, eq-eqb, eqb-true, not-false}
 use Rattle.masks.specs.declared.outcome.Answer.{Answer}
 use Rattle.masks.specs.declared.outcome.Answers.{Answers}
 use Rattle.masks.specs.declared.outcome.Count.{Count}
-use Rattle.masks.specs.Outcome.{Test, refusal, tooMany, wrongCount, noRoom, resultTests, unless, laid, Outcome, refusedValue, answerOf, Gives, Pair, refusedPair, answersOf, GivesBoth, Written, refusedList, countOf, Writes}
+use Rattle.masks.specs.Outcome.{Test, refusal, tooMany, wrongCount, noRoom, resultTests, pairTests, unless, laid, Outcome, refusedValue, answerOf, Gives, Pair, refusedPair, answersOf, GivesBoth, Written, refusedList, countOf, Writes}
 
 -- ---- lists of tests
 
@@ -130,6 +130,55 @@ module _ {A : Type 0} where
 
   pub writes-done : (k n : ℕ) (o : Written A) (r : Count) (before after : List A) → n ≡ k → n ≡ 0 → r ≡ countOf o → after ≡ laid (o .items) before → Writes (unless refusedList k o) r before after
   writes-done k n o r before after e h a l = rw (unless-done refusedList k n o e h) (record { counted = a; left = l })
+
+-- ---- the tests of a call on one value or on two
+
+pub passes : (d n count room needed : ℕ) → Taken d n count room needed → refusal (resultTests d n count room needed) ≡ 0
+unfolding refusal
+passes d n count room needed t =
+    simp (le-ltb 9 d (t .small), le-ltb 9 n (t .result), eq-eqb count (2 ^ d) (t .counted), le-ltb room needed (t .roomy))
+
+-- the code's number is the definition's
+pub checked : (k d n count room needed : ℕ) → k ≡ refusal (resultTests d n count room needed) → (n ≤ 9 → needed ≡ 2 ^ n) → k ≡ refusal (resultTests d n count room (2 ^ n))
+checked k d n count room needed e b = e ∙ needed-same d n count room needed (2 ^ n) b
+
+-- Where the given dimensions are refused, the resulting ones do not count.
+pub result-tests-same : (d n m count room : ℕ) → (d ≤ 9 → n ≡ m) → refusal (resultTests d n count room (2 ^ n)) ≡ refusal (resultTests d m count room (2 ^ m))
+result-tests-same d n m count room h =
+    later-same d _ _ (λ l. ap (λ (k : ℕ). refusal (tooMany k ∷ wrongCount count d ∷ noRoom room (2 ^ k) ∷ [])) (h l))
+
+-- what a caller may rest on where a call on two values is not refused
+pub record Passed (d e n count countRight room : ℕ) : Type 0 where
+  pub small : d ≤ 9
+  pub smallRight : e ≤ 9
+  pub result : n ≤ 9
+  pub counted : count ≡ 2 ^ d
+  pub countedRight : countRight ≡ 2 ^ e
+  pub roomy : 2 ^ n ≤ room
+
+pub passed : (d e n count countRight room : ℕ) → refusal (pairTests d e n count countRight room) ≡ 0 → Passed d e n count countRight room
+passed d e n count countRight room z =
+    let p = past (tooMany d) _ (λ q. omega arith) z in
+    let q = past (tooMany e) _ (λ q. omega arith) (p .1) in
+    let r = past (tooMany n) _ (λ q. omega arith) (q .1) in
+    let s = past (wrongCount count d) _ (λ q. omega arith) (r .1) in
+    let t = past (wrongCount countRight e) _ (λ q. omega arith) (s .1) in
+    let u = past (noRoom room (2 ^ n)) _ (λ q. omega arith) (t .1) in
+    record {
+      small = ltb-false _ _ (p .0);
+      smallRight = ltb-false _ _ (q .0);
+      result = ltb-false _ _ (r .0);
+      counted = eqb-true _ _ (not-false _ (s .0));
+      countedRight = eqb-true _ _ (not-false _ (t .0));
+      roomy = ltb-false _ _ (u .0);
+    }
+
+-- ---- an outcome whose number is 0 is not a refusal
+
+pub not-refused : (k : ℕ) (o : Outcome) → unless refusedValue k o .number ≡ 0 → (k ≡ 0) × (unless refusedValue k o ≡ o)
+unfolding unless
+not-refused zero o e = (refl, refl)
+not-refused (suc k) o e = absurd (omega arith)
 
 -- ---- nothing is left open: an outcome and what the output held determine the answer and what it holds after
 
