@@ -1,4 +1,4 @@
--- What a call gives: its number, its results, and what it writes from the front of a lent output. Assumes nothing.
+-- What a call gives: its number, its results, and what it writes from the front of the caller's output. Assumes nothing.
 use mathlib.Core.Path.{_≡_}
 use mathlib.Core.Bool.{Bool, false, not, cond}
 use mathlib.Core.List.{List, [], _∷_, _++_}

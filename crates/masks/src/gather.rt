@@ -144,7 +144,7 @@ fn promote<'o>(dims: u8, masks: &'o [u16; 512], places: &'o [u16; 512], a: &[f64
     gather(&lowered, 0, n, dims, places, UNTURNED, a, out);
 }
 
-// A value promoted by `up` dimensions, 0 or 1, and then at others. Only an order between the two that are lent is built.
+// A value promoted by `up` dimensions, 0 or 1, and then at others. Only an order between the two that are given is built.
 pub(crate) fn conform_by<'o>(
     up: u8,
     dims: u8,

@@ -32,20 +32,20 @@ pub const NO_SPEC: u8 = 8;
 
 pub const MALFORMED: u8 = 9;
 
-// A value: its coefficients are in the lent output.
+// A value: its coefficients are in the caller's output.
 pub struct Answer {
     pub number: u8,
     pub shape: Shape,
 }
 
-// Two values: their coefficients are in the two lent outputs.
+// Two values: their coefficients are in the caller's two outputs.
 pub struct Answers {
     pub number: u8,
     pub left: Shape,
     pub right: Shape,
 }
 
-// A count: of what is in the lent output, or the size of a grade.
+// A count: of what is in the caller's output, of blades, or the size of a grade.
 pub struct Count {
     pub number: u8,
     pub count: usize,

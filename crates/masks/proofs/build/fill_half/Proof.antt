@@ -16,7 +16,7 @@ sorted-order-requires c κs = search needs
 blades-requires : tie.Need-blades-requires
 blades-requires c κs = search needs
 
--- the masks that are lent are the order's
+-- the masks that are passed are the order's
 ordered : (c : tie.After-blades) → take (c .blades .result) (c .before .sorted-order .result .masks) ≡ order (c .before .before .before .before .args .dims)
 ordered c =
     let s = c .before .before .before .before in

@@ -90,9 +90,9 @@ module _ (c : tie.After-blades) where
   abbrev i : tie.Else1
   i = o .before .before
 
-  -- as many numbers as there are blades are lent
-  lent : c .blades .result ≤ length (c .before .before .promote2 .last .1 .1 .1 .1 .0)
-  lent = omega (arith, c .blades .ensures, few i, c .before .before .promote2 .kept .1 .1 .1 .1 .0)
+  -- the buffer has as many numbers as there are blades
+  enough : c .blades .result ≤ length (c .before .before .promote2 .last .1 .1 .1 .1 .0)
+  enough = omega (arith, c .blades .ensures, few i, c .before .before .promote2 .kept .1 .1 .1 .1 .0)
 
 blades-requires : tie.Need-blades-requires
 blades-requires c κs = more (c .before .before .before .before .before .before .before)
@@ -101,17 +101,17 @@ add-resize : tie.Need-add-resize
 add-resize c = omega (arith, more (i c))
 
 array-share-prefix-held : tie.Need-array-share-prefix-held
-array-share-prefix-held c = lent (c .before .before)
+array-share-prefix-held c = enough (c .before .before)
 
 slice-aggregate-resize : tie.Need-slice-aggregate-resize
-slice-aggregate-resize c = sym (length-take-le _ _ (lent (c .before .before .before)))
+slice-aggregate-resize c = sym (length-take-le _ _ (enough (c .before .before .before)))
 
 resize-requires-2 : tie.Need-resize-requires-2
 resize-requires-2 c κs =
     let b = c .before .before .before .before in
     let m = more (i b) in
     let p = s (i b) .pre in
-    ((m, p .0 .2, length-take-le _ _ (lent b) ∙ b .blades .ensures, p .0 .4), (p .1 .0, built-places (o b .sorted-order .ensures)))
+    ((m, p .0 .2, length-take-le _ _ (enough b) ∙ b .blades .ensures, p .0 .4), (p .1 .0, built-places (o b .sorted-order .ensures)))
 
 same-length-3 : tie.Need-same-length-3
 same-length-3 c = search needs

@@ -40,9 +40,9 @@ abbrev set-blade-below : ℕ → In 2 set-blade-kinds.ps
 set-blade-below t =
     and 2 set-blade-kinds.ps (falls 2 set-blade-kinds.ps _<_ μ-set-blade t) set-blade.Pre
 
--- what the calls ask and tell
-abbrev told : ℕ → set-blade-lts.Claims
-told t = (
+-- what the calls ask and give
+abbrev claims : ℕ → set-blade-lts.Claims
+claims t = (
   set-blade-refusal-reads.Asked,
   set-blade-refusal-reads.Learnt,
   refused-reads.Asked,
@@ -64,38 +64,38 @@ told t = (
 )
 
 module _ (t : ℕ) where
-  set-blade-refusal-requires : set-blade-lts.Need-set-blade-refusal-requires (told t) (set-blade-at t) set-blade.Post
+  set-blade-refusal-requires : set-blade-lts.Need-set-blade-refusal-requires (claims t) (set-blade-at t) set-blade.Post
   set-blade-refusal-requires c κs = tt
 
-  refused-requires : set-blade-lts.Need-refused-requires (told t) (set-blade-at t) set-blade.Post
+  refused-requires : set-blade-lts.Need-refused-requires (claims t) (set-blade-at t) set-blade.Post
   refused-requires c κs = tt
 
-  returns : set-blade-lts.Need-returns (told t) (set-blade-at t) set-blade.Post
+  returns : set-blade-lts.Need-returns (claims t) (set-blade-at t) set-blade.Post
   unfolding setBlade
   returns c = gives-refused _ _ _ _ _ (c .before .before .set-blade-refusal .ensures) (c .before .if1 .taken) (c .refused .ensures)
 
   -- the call is not refused
-  module _ (c : set-blade-lts.Else1 (told t) (set-blade-at t) set-blade.Post) where
-    abbrev s : set-blade-lts.Start (told t) (set-blade-at t) set-blade.Post
+  module _ (c : set-blade-lts.Else1 (claims t) (set-blade-at t) set-blade.Post) where
+    abbrev s : set-blade-lts.Start (claims t) (set-blade-at t) set-blade.Post
     s = c .before .before .before .before
 
     ok : Placed (s .args .self .dims) (s .args .mask) (length (s .args .a .now)) (length (s .args .out .now))
     ok = placed (s .args .self .dims) (s .args .mask) (length (s .args .a .now)) (length (s .args .out .now)) (sym (c .before .set-blade-refusal .ensures) ∙ c .if1 .left)
 
-  sorted-order-requires : set-blade-lts.Need-sorted-order-requires (told t) (set-blade-at t) set-blade.Post
+  sorted-order-requires : set-blade-lts.Need-sorted-order-requires (claims t) (set-blade-at t) set-blade.Post
   sorted-order-requires c κs = ok c .small
 
-  blades-requires : set-blade-lts.Need-blades-requires (told t) (set-blade-at t) set-blade.Post
+  blades-requires : set-blade-lts.Need-blades-requires (claims t) (set-blade-at t) set-blade.Post
   blades-requires c κs = ok (c .before) .small
 
-  -- the places that are lent
-  places : (c : set-blade-lts.After-sorted-order (told t) (set-blade-at t) set-blade.Post) → c .sorted-order .result .places ≡ placesOf (s (c .before) .args .self .dims)
+  -- the places that are passed
+  places : (c : set-blade-lts.After-sorted-order (claims t) (set-blade-at t) set-blade.Post) → c .sorted-order .result .places ≡ placesOf (s (c .before) .args .self .dims)
   places c = built-places (c .sorted-order .ensures)
 
-  inside : (c : set-blade-lts.Then2 (told t) (set-blade-at t) set-blade.Post) → s (c .before .before .before) .args .mask < 2 ^ (s (c .before .before .before) .args .self .dims)
+  inside : (c : set-blade-lts.Then2 (claims t) (set-blade-at t) set-blade.Post) → s (c .before .before .before) .args .mask < 2 ^ (s (c .before .before .before) .args .self .dims)
   inside c = omega (arith, c .if2 .taken, c .before .blades .ensures)
 
-  put-blade-requires : set-blade-lts.Need-put-blade-requires (told t) (set-blade-at t) set-blade.Post
+  put-blade-requires : set-blade-lts.Need-put-blade-requires (claims t) (set-blade-at t) set-blade.Post
   put-blade-requires c κs =
       let j = c .before .before .before in
       let o = j .before .before in
@@ -104,13 +104,13 @@ module _ (t : ℕ) where
       let h = inside j in
       (p .small, places o, h, p .counted, omega (arith, p .roomy, ap (λ n. 2 ^ n) (dims-here (9 - s i .args .self .dims) (s i .args .self .dims) (s i .args .mask) h)))
 
-  done-requires : set-blade-lts.Need-done-requires (told t) (set-blade-at t) set-blade.Post
+  done-requires : set-blade-lts.Need-done-requires (claims t) (set-blade-at t) set-blade.Post
   done-requires c κs = tt
 
-  same-length : set-blade-lts.Need-same-length (told t) (set-blade-at t) set-blade.Post
+  same-length : set-blade-lts.Need-same-length (claims t) (set-blade-at t) set-blade.Post
   same-length c = search needs
 
-  returns-2 : set-blade-lts.Need-returns-2 (told t) (set-blade-at t) set-blade.Post
+  returns-2 : set-blade-lts.Need-returns-2 (claims t) (set-blade-at t) set-blade.Post
   unfolding setBlade
   returns-2 c =
       let j = c .before .before .before .before .before .before .before in
@@ -123,8 +123,8 @@ module _ (t : ℕ) where
       ∙ ap (λ xs. laid xs (a .out .now)) (sym (blade-here k (a .self .dims) (a .mask) (a .x) (a .a .now) (inside j))))
 
   -- the mask is outside
-  module _ (c : set-blade-lts.Else2 (told t) (set-blade-at t) set-blade.Post) where
-    abbrev i : set-blade-lts.Else1 (told t) (set-blade-at t) set-blade.Post
+  module _ (c : set-blade-lts.Else2 (claims t) (set-blade-at t) set-blade.Post) where
+    abbrev i : set-blade-lts.Else1 (claims t) (set-blade-at t) set-blade.Post
     i = c .before .before .before
 
     outside : 2 ^ (s i .args .self .dims) ≤ s i .args .mask
@@ -136,19 +136,19 @@ module _ (t : ℕ) where
     few : 2 ^ (s i .args .self .dims + 1) ≤ 512
     few = blades-le (s i .args .self .dims + 1) (omega (arith, more))
 
-  add-sorted-order : set-blade-lts.Need-add-sorted-order (told t) (set-blade-at t) set-blade.Post
+  add-sorted-order : set-blade-lts.Need-add-sorted-order (claims t) (set-blade-at t) set-blade.Post
   add-sorted-order c = omega (arith, more c)
 
-  sorted-order-requires-2 : set-blade-lts.Need-sorted-order-requires-2 (told t) (set-blade-at t) set-blade.Post
+  sorted-order-requires-2 : set-blade-lts.Need-sorted-order-requires-2 (claims t) (set-blade-at t) set-blade.Post
   sorted-order-requires-2 c κs = omega (arith, more c)
 
-  add-resize : set-blade-lts.Need-add-resize (told t) (set-blade-at t) set-blade.Post
+  add-resize : set-blade-lts.Need-add-resize (claims t) (set-blade-at t) set-blade.Post
   add-resize c = omega (arith, more (c .before))
 
-  slice-aggregate-resize : set-blade-lts.Need-slice-aggregate-resize (told t) (set-blade-at t) set-blade.Post
+  slice-aggregate-resize : set-blade-lts.Need-slice-aggregate-resize (claims t) (set-blade-at t) set-blade.Post
   slice-aggregate-resize c = search needs
 
-  resize-requires : set-blade-lts.Need-resize-requires (told t) (set-blade-at t) set-blade.Post
+  resize-requires : set-blade-lts.Need-resize-requires (claims t) (set-blade-at t) set-blade.Post
   resize-requires c κs =
       let n = c .before .before .before .before .before in
       let j = n .before in
@@ -157,42 +157,42 @@ module _ (t : ℕ) where
       ((p .small, m, p .counted, few j), (built-masks (n .sorted-order2 .ensures), places (j .before .before)))
 
   -- where the value is grown
-  abbrev grown : set-blade-lts.After-held2 (told t) (set-blade-at t) set-blade.Post → set-blade-lts.Else2 (told t) (set-blade-at t) set-blade.Post
+  abbrev grown : set-blade-lts.After-held2 (claims t) (set-blade-at t) set-blade.Post → set-blade-lts.Else2 (claims t) (set-blade-at t) set-blade.Post
   grown c = c .before .before .before .before .before .before .before .before
 
-  add-blades : set-blade-lts.Need-add-blades (told t) (set-blade-at t) set-blade.Post
+  add-blades : set-blade-lts.Need-add-blades (claims t) (set-blade-at t) set-blade.Post
   add-blades c = omega (arith, more (grown c))
 
-  blades-requires-2 : set-blade-lts.Need-blades-requires-2 (told t) (set-blade-at t) set-blade.Post
+  blades-requires-2 : set-blade-lts.Need-blades-requires-2 (claims t) (set-blade-at t) set-blade.Post
   blades-requires-2 c κs = omega (arith, more (grown c))
 
-  add-with-dims : set-blade-lts.Need-add-with-dims (told t) (set-blade-at t) set-blade.Post
+  add-with-dims : set-blade-lts.Need-add-with-dims (claims t) (set-blade-at t) set-blade.Post
   add-with-dims c = omega (arith, more (grown (c .before)))
 
-  with-dims-requires : set-blade-lts.Need-with-dims-requires (told t) (set-blade-at t) set-blade.Post
+  with-dims-requires : set-blade-lts.Need-with-dims-requires (claims t) (set-blade-at t) set-blade.Post
   with-dims-requires c κs = tt
 
-  -- as many numbers as there are blades are lent
-  lent : (c : set-blade-lts.After-blades2 (told t) (set-blade-at t) set-blade.Post) → c .blades2 .result ≤ length (c .before .before .resize .last .1 .1 .1 .1 .1 .0)
-  lent c = omega (arith, c .blades2 .ensures, few (grown (c .before)), c .before .before .resize .kept .1 .1 .1 .1 .1 .0)
+  -- the buffer has as many numbers as there are blades
+  enough : (c : set-blade-lts.After-blades2 (claims t) (set-blade-at t) set-blade.Post) → c .blades2 .result ≤ length (c .before .before .resize .last .1 .1 .1 .1 .1 .0)
+  enough c = omega (arith, c .blades2 .ensures, few (grown (c .before)), c .before .before .resize .kept .1 .1 .1 .1 .1 .0)
 
-  array-share-prefix-held : set-blade-lts.Need-array-share-prefix-held (told t) (set-blade-at t) set-blade.Post
-  array-share-prefix-held c = lent (c .before)
+  array-share-prefix-held : set-blade-lts.Need-array-share-prefix-held (claims t) (set-blade-at t) set-blade.Post
+  array-share-prefix-held c = enough (c .before)
 
-  slice-aggregate-set-blade : set-blade-lts.Need-slice-aggregate-set-blade (told t) (set-blade-at t) set-blade.Post
-  slice-aggregate-set-blade c = sym (length-take-le _ _ (lent (c .before .before)))
+  slice-aggregate-set-blade : set-blade-lts.Need-slice-aggregate-set-blade (claims t) (set-blade-at t) set-blade.Post
+  slice-aggregate-set-blade c = sym (length-take-le _ _ (enough (c .before .before)))
 
-  set-blade-requires : set-blade-lts.Need-set-blade-requires (told t) (set-blade-at t) set-blade.Post
+  set-blade-requires : set-blade-lts.Need-set-blade-requires (claims t) (set-blade-at t) set-blade.Post
   set-blade-requires c κs =
       let j = grown (c .before .before .before .before) in
       let d : c .before .before .with-dims .result .dims ≡ s (i j) .args .self .dims + 1 = ap (λ x. x .dims) (c .before .before .with-dims .ensures) in
       let h : 9 - c .before .before .with-dims .result .dims < t = omega (arith, d, more j, s (i j) .pre .0) in
       (h, tt)
 
-  same-length-2 : set-blade-lts.Need-same-length-2 (told t) (set-blade-at t) set-blade.Post
+  same-length-2 : set-blade-lts.Need-same-length-2 (claims t) (set-blade-at t) set-blade.Post
   same-length-2 c = search needs
 
-  returns-3 : set-blade-lts.Need-returns-3 (told t) (set-blade-at t) set-blade.Post
+  returns-3 : set-blade-lts.Need-returns-3 (claims t) (set-blade-at t) set-blade.Post
   returns-3 c =
       let w = c .before .before .before .before .before in
       let b = w .before in
@@ -207,7 +207,7 @@ module _ (t : ℕ) where
 pub +set-blade-spec : {M : Type 1} → statement M
 +set-blade-spec =
     close μ-set-blade λ t. set-blade-lts.spec
-    (told t)
+    (claims t)
     (set-blade-at t)
     set-blade.Post
     (set-blade-refusal-requires t)
