@@ -11,42 +11,15 @@ use lib.Dec.{ltb}
 use lib.Ieee.{Float, nan}
 use lib.ListN.{length, set, take, drop, length-set}
 use lib.Seq.{set-append-left, getD-set-same}
-use Rattle.masks.specs.Outcome.{Test, refusal, tooMany, wrongCount, noRoom, valueTests, refusedValue, value, laid, refusedReal}
+use Rattle.masks.specs.Outcome.{refusal, tooMany, wrongCount, noRoom, valueTests, refusedValue, value, laid, refusedReal}
 use Rattle.masks.specs.declared.shape.Shape.{Shape}
 use Rattle.masks.specs.Order.{place}
 use Rattle.masks.specs.Shape.{coef, withDims, resized}
 use Rattle.masks.specs.Blade.{getBlade, bladeDims, withBlade, setBladeTests, setBlade, gradeRefusal}
 use Rattle.masks.proofs.ListLaws.{split}
 use Rattle.masks.proofs.OrderLaws.{place-lt}
-use Rattle.masks.proofs.OutcomeLaws.{past, refused-later, unless-done, not-refused}
+use Rattle.masks.proofs.OutcomeLaws.{past, unless-done, not-refused, Valued, valued, value-passes}
 use Rattle.masks.proofs.ShapeLaws.{coef-inside, resized-length}
-
--- ---- the tests of a value, which stand before others
-
--- what a caller may rest on where they do not fail
-pub record Valued (d count : ℕ) : Type 0 where
-  pub small : d ≤ 9
-  pub counted : count ≡ 2 ^ d
-
-pub valued : (d count : ℕ) (ts : List Test) → refusal (tooMany d ∷ wrongCount count d ∷ ts) ≡ 0 → Valued d count × (refusal ts ≡ 0)
-valued d count ts e =
-    let p = past (tooMany d) _ (λ q. omega arith) e in
-    let q = past (wrongCount count d) ts (λ q. omega arith) (p .1) in
-    (record { small = ltb-false _ _ (p .0); counted = eqb-true _ _ (not-false _ (q .0)) }, q .1)
-
-pub value-passes : (d count : ℕ) (ts : List Test) → Valued d count → refusal (tooMany d ∷ wrongCount count d ∷ ts) ≡ refusal ts
-value-passes d count ts v =
-    refused-later (tooMany d) _ (le-ltb 9 d (v .small)) ∙ refused-later (wrongCount count d) ts (ap not (eq-eqb count (2 ^ d) (v .counted)))
-
--- a number that the first tests give, they give with more behind them
-pub sooner : (n : ℕ) (ts us : List Test) → n ≡ refusal ts → (n ≡ 0 → ⊥) → n ≡ refusal (ts ++ us)
-unfolding refusal
-sooner n [] us e h = absurd (h e)
-sooner n (t ∷ ts) us e h = go (t .fails) e (λ q. sooner n ts us q h)
-  where
-    go : (b : Bool) → n ≡ cond b (t .number) (refusal ts) → (n ≡ refusal ts → n ≡ refusal (ts ++ us)) → n ≡ cond b (t .number) (refusal (ts ++ us))
-    go true q f = q
-    go false q f = f q
 
 -- ---- the dimensions that a mask needs
 

@@ -1,6 +1,6 @@
 -- What holds where a call is refused and where it is not; and that a contract of each kind leaves nothing open. Assumes nothing.
 use mathlib.Core.Path.{_≡_, refl, sym, ap, _∙_}
-use mathlib.Core.Bool.{Bool, true, false, cond}
+use mathlib.Core.Bool.{Bool, true, false, not, cond}
 use mathlib.Core.List.{List, [], _∷_, _++_}
 use Prim.Native.Nat.{ℕ, zero, suc, _^_, _≤_}
 use native.Mathlib.Omega.{arith}
@@ -90,6 +90,33 @@ refused-already (t ∷ ts) us h = go (t .fails) h (refused-already ts us)
     go : (b : Bool) → (cond b (t .number) (refusal ts) ≡ 0 → ⊥) → ((refusal ts ≡ 0 → ⊥) → refusal (ts ++ us) ≡ refusal ts) → cond b (t .number) (refusal (ts ++ us)) ≡ cond b (t .number) (refusal ts)
     go true g f = refl
     go false g f = f g
+
+-- ---- the tests of a value, which stand before others
+
+-- what a caller may rest on where they do not fail
+pub record Valued (d count : ℕ) : Type 0 where
+  pub small : d ≤ 9
+  pub counted : count ≡ 2 ^ d
+
+pub valued : (d count : ℕ) (ts : List Test) → refusal (tooMany d ∷ wrongCount count d ∷ ts) ≡ 0 → Valued d count × (refusal ts ≡ 0)
+valued d count ts e =
+    let p = past (tooMany d) _ (λ q. omega arith) e in
+    let q = past (wrongCount count d) ts (λ q. omega arith) (p .1) in
+    (record { small = ltb-false _ _ (p .0); counted = eqb-true _ _ (not-false _ (q .0)) }, q .1)
+
+pub value-passes : (d count : ℕ) (ts : List Test) → Valued d count → refusal (tooMany d ∷ wrongCount count d ∷ ts) ≡ refusal ts
+value-passes d count ts v =
+    refused-later (tooMany d) _ (le-ltb 9 d (v .small)) ∙ refused-later (wrongCount count d) ts (ap not (eq-eqb count (2 ^ d) (v .counted)))
+
+-- a number that the first tests give, they give with more behind them
+pub sooner : (n : ℕ) (ts us : List Test) → n ≡ refusal ts → (n ≡ 0 → ⊥) → n ≡ refusal (ts ++ us)
+unfolding refusal
+sooner n [] us e h = absurd (h e)
+sooner n (t ∷ ts) us e h = go (t .fails) e (λ q. sooner n ts us q h)
+  where
+    go : (b : Bool) → n ≡ cond b (t .number) (refusal ts) → (n ≡ refusal ts → n ≡ refusal (ts ++ us)) → n ≡ cond b (t .number) (refusal (ts ++ us))
+    go true q f = q
+    go false q f = f q
 
 -- ---- the result, or a refusal
 

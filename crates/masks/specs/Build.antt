@@ -34,7 +34,7 @@ oneGrade n g v f room = unless refusedValue (refusal (builtTests n room)) (value
 unfoldable pub vector : List Float → Flavor → ℕ → Outcome
 vector v f room = oneGrade (length v) 1 v f room
 
--- The tests of building from n numbers, or of fewer than two, which refuses 2.
+-- The tests of building a value of n dimensions from n numbers: fewer than two refuse 2.
 abbrev pub n1Tests : ℕ → ℕ → List Test
 n1Tests n room = tooMany n ∷ record { fails = ltb n 2; number = 2 } ∷ noRoom room (2 ^ n) ∷ []
 

@@ -5,9 +5,8 @@ use borrow.Author.Needs.{needs}
 use lib.Ieee.{ofBits, ofFields}
 use lib.ListN.{length}
 use Rattle.masks.specs.Outcome.{refusedReal}
-use Rattle.masks.proofs.OutcomeLaws.{unless-refused, unless-done}
+use Rattle.masks.proofs.OutcomeLaws.{unless-refused, unless-done, Valued, valued}
 use Rattle.masks.proofs.OrderLaws.{holds-masks}
-use Rattle.masks.proofs.BladeLaws.{Valued, valued}
 use Rattle.arithmetic.specs.Magnitude.{squaredMagnitude}
 use Rattle.arithmetic.proofs.magnitude.squared_magnitude.Statement.{statement}
 use Rattle.arithmetic.proofs.magnitude.squared_magnitude.Tie as tie

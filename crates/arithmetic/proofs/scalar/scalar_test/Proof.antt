@@ -2,8 +2,7 @@
 use mathlib.Core.Path.{sym, _∙_}
 use mathlib.Core.List.{[]}
 use borrow.Author.Needs.{needs}
-use Rattle.masks.proofs.OutcomeLaws.{unless-refused, unless-done}
-use Rattle.masks.proofs.BladeLaws.{valued}
+use Rattle.masks.proofs.OutcomeLaws.{unless-refused, unless-done, valued}
 use Rattle.arithmetic.specs.Scalar.{scalarTest, refusedTest}
 use Rattle.arithmetic.proofs.scalar.scalar_test.Statement.{statement}
 use Rattle.arithmetic.proofs.scalar.scalar_test.Tie as tie

@@ -7,8 +7,7 @@ use lib.ListN.{length}
 use Rattle.masks.specs.Outcome.{refusedReal}
 use Rattle.masks.specs.Blade.{getBlade}
 use Rattle.masks.proofs.OrderLaws.{built-places}
-use Rattle.masks.proofs.OutcomeLaws.{unless-refused, unless-done}
-use Rattle.masks.proofs.BladeLaws.{Valued, valued}
+use Rattle.masks.proofs.OutcomeLaws.{unless-refused, unless-done, Valued, valued}
 use Rattle.masks.proofs.shape.Shape.get_blade.Statement.{statement}
 use Rattle.masks.proofs.shape.Shape.get_blade.Tie as tie
 

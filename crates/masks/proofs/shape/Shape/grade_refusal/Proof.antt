@@ -6,7 +6,8 @@ use lib.Dec.{ltb}
 use borrow.Author.Needs.{needs}
 use borrow.Author.Tests.{lt-ltb, le-ltb}
 use Rattle.masks.specs.Blade.{gradeRefusal}
-use Rattle.masks.proofs.BladeLaws.{sooner, grade-later}
+use Rattle.masks.proofs.OutcomeLaws.{sooner}
+use Rattle.masks.proofs.BladeLaws.{grade-later}
 use Rattle.masks.proofs.shape.Shape.grade_refusal.Statement.{statement}
 use Rattle.masks.proofs.shape.Shape.grade_refusal.Tie as tie
 
