@@ -116,10 +116,10 @@ pub fn refusal_of(dims: u8, result: u8, count: usize, room: usize, needed: usize
 pub fn value_refusal(dims: u8, count: usize) -> u8
     ensures { λ r. ⌜ r ≡ refusal (valueTests dims count) ⌝ }
 {
-    if MAX_DIMS < dims {
+    if dims > MAX_DIMS {
         return TOO_MANY_DIMS;
     }
-    if count != blades(dims) {
+    if blades(dims) != count {
         return WRONG_COUNT;
     }
     DONE

@@ -18,14 +18,14 @@ unfolding refusal
 returns-2 c =
     let d = c .before .before .if1 .left in
     let b = c .before .blades .ensures in
-    simp (le-ltb 9 _ d, ne-eqb _ _ (λ e. c .if2 .taken (e ∙ sym b)))
+    simp (le-ltb 9 _ d, ne-eqb _ _ (λ e. c .if2 .taken (b ∙ sym e)))
 
 returns-3 : tie.Need-returns-3
 unfolding refusal
 returns-3 c =
     let d = c .before .before .if1 .left in
     let b = c .before .blades .ensures in
-    simp (le-ltb 9 _ d, eq-eqb _ _ (c .if2 .left ∙ b))
+    simp (le-ltb 9 _ d, eq-eqb _ _ (sym (c .if2 .left) ∙ b))
 
 pub value-refusal-spec : {M : Type 1} → statement M
 value-refusal-spec = tie.close (tie.spec returns blades-requires returns-2 returns-3)
