@@ -1,4 +1,4 @@
--- What the Rust's == and `cmp` do that equality and order don't, and what their proofs cite. Assumes nothing.
+-- What the reference's == and `cmp` do that equality and order don't, and what their proofs cite. Assumes nothing.
 use mathlib.Core.Path.{_≡_, refl, sym, _∙_}
 use mathlib.Core.Bool.{true, false}
 use mathlib.Core.List.{List, [], _∷_}

@@ -18,7 +18,7 @@ use Rattle.arithmetic.specs.declared.scalar.ScalarTest.the-variants.{Sca
 use Rattle.arithmetic.specs.Scalar.{testOf, ifScalar, wasPlanar}
 use Rattle.arithmetic.specs.Kept.{keptTests}
 use Rattle.arithmetic.specs.Scale.{reciprocal}
-use Rattle.arithmetic.specs.Inverse.{squared, lessScalar, bySquare, nanified, generalInverse, inverseBy, inverseOf, inverse}
+use Rattle.arithmetic.specs.Inverse.{squareOf, lessScalar, bySquare, nanified, generalInverse, inverseBy, inverseOf, inverse}
 use Rattle.arithmetic.proofs.KeptLaws.{Accepted, kept-accepted, accepted-kept, scaled-length}
 use Rattle.arithmetic.proofs.ScalarLaws.{IsPlanar, planar-is, is-planar}
 
@@ -39,7 +39,7 @@ by-square-length s x q = scaled-length _ _ ∙ length-set (map neg x) 0 _ ∙ le
 module _ (s : Shape) (a : List Float) (l : length a ≡ 2 ^ s .dims) where
   pub general-length : length (generalInverse s a) ≡ 2 ^ s .dims
   unfolding generalInverse ifScalar
-  general-length = go (testOf s (squared s (lessScalar a)))
+  general-length = go (testOf s (squareOf s (lessScalar a)))
     where
       go : (t : ScalarTest) → length (ifScalar t (bySquare (getD a 0 nan) (lessScalar a)) (nanified (s .dims))) ≡ 2 ^ s .dims
       go (Scalar q) = by-square-length (getD a 0 nan) (lessScalar a) q ∙ less-scalar-length a ∙ l

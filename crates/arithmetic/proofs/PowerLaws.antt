@@ -28,7 +28,7 @@ use Rattle.masks.proofs.OutcomeLaws.{refused-first, refused-later, not-refused}
 use Rattle.arithmetic.specs.Scalar.{testOf, wasPlanar}
 use Rattle.arithmetic.specs.Operators.{isOther, resultDims, operatorTests, multiplication}
 use Rattle.arithmetic.specs.Dual.{ample}
-use Rattle.arithmetic.specs.Inverse.{squared}
+use Rattle.arithmetic.specs.Inverse.{squareOf}
 use Rattle.arithmetic.specs.Power.{isNegative, sizeOf, isDirect, powerDims, raised, powerOf, negativePlanar, leastPower, powerTests, power}
 use Rattle.arithmetic.proofs.KeptLaws as Kept
 use Rattle.arithmetic.proofs.OperatorsLaws.{multiply-length}
@@ -56,7 +56,7 @@ added-le (Cl p n z) = omega arith
 pub raised-none : (s : Shape) (k : ℕ) (r x : List Float) → raised s k 0 r x ≡ r
 unfolding raised
 raised-none s zero r x = refl
-raised-none s (suc k) r x = raised-none s k r (squared s x)
+raised-none s (suc k) r x = raised-none s k r (squareOf s x)
 
 half : (n k : ℕ) → n < 2 ^ suc k → n / 2 < 2 ^ k
 half n k h = omega (arith, pow-suc 2 k)
@@ -68,11 +68,11 @@ pub raised-more : (s : Shape) (k j n : ℕ) (r x : List Float) → n < 2 ^ k →
 unfolding raised
 raised-more s zero j n r x h i = rw (none n h) (sym (raised-none s j r x))
 raised-more s (suc k) zero n r x h i = rw (none n i) (raised-none s (suc k) r x)
-raised-more s (suc k) (suc j) n r x h i = raised-more s k j (n / 2) _ (squared s x) (half n k h) (half n j i)
+raised-more s (suc k) (suc j) n r x h i = raised-more s k j (n / 2) _ (squareOf s x) (half n k h) (half n j i)
 
 -- One digit more is taken.
 pub raised-next : (s : Shape) (k n : ℕ) (r x : List Float) → 0 < n → n < 2 ^ k
-    → (j : ℕ) × (n / 2 < 2 ^ j) × (raised s k n r x ≡ raised s j (n / 2) (cond (eqb (n % 2) 1) (multiplication (withDims s (s .dims + addedDims (s .flavor))) s r x ample .coefs) r) (squared s x))
+    → (j : ℕ) × (n / 2 < 2 ^ j) × (raised s k n r x ≡ raised s j (n / 2) (cond (eqb (n % 2) 1) (multiplication (withDims s (s .dims + addedDims (s .flavor))) s r x ample .coefs) r) (squareOf s x))
 unfolding raised
 raised-next s zero n r x h l = absurd (omega arith)
 raised-next s (suc k) n r x h l = (k, half n k l, refl)

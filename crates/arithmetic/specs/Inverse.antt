@@ -14,8 +14,8 @@ use Rattle.arithmetic.specs.Kept.{keptTests}
 use Rattle.arithmetic.specs.Scale.{scaled, reciprocal}
 
 -- A value of one shape squared by the pairwise product.
-abbrev pub squared : Shape → List Float → List Float
-squared s x = product All (s .flavor) (s .dims) binary64 x x
+abbrev pub squareOf : Shape → List Float → List Float
+squareOf s x = product All (s .flavor) (s .dims) binary64 x x
 
 -- s is place 0, x the value with -s added there.
 unfoldable pub lessScalar : List Float → List Float
@@ -33,7 +33,7 @@ nanified d = nan ∷ replicate (2 ^ d - 1) nought
 unfoldable pub generalInverse : Shape → List Float → List Float
 generalInverse s a =
     let x = lessScalar a in
-    ifScalar (testOf s (squared s x)) (bySquare (getD a 0 nan) x) (nanified (s .dims))
+    ifScalar (testOf s (squareOf s x)) (bySquare (getD a 0 nan) x) (nanified (s .dims))
 
 -- Scalar: 1 / f at place 0, the rest kept. Planar: refused, so there is none.
 unfoldable pub inverseBy : ScalarTest → Shape → List Float → List Float

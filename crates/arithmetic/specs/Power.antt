@@ -15,7 +15,7 @@ use Rattle.arithmetic.specs.Scalar.{testOf, wasPlanar}
 use Rattle.arithmetic.specs.Scale.{unity}
 use Rattle.arithmetic.specs.Operators.{multiplication}
 use Rattle.arithmetic.specs.Dual.{ample}
-use Rattle.arithmetic.specs.Inverse.{squared, inverseOf}
+use Rattle.arithmetic.specs.Inverse.{squareOf, inverseOf}
 
 -- ---- the exponent
 
@@ -43,7 +43,7 @@ powerDims s n = cond (isDirect n) (s .dims) (s .dims + addedDims (s .flavor))
 unfoldable pub raised : Shape → ℕ → ℕ → List Float → List Float → List Float
 raised s zero n r x = r
 raised s (suc k) n r x =
-    raised s k (n / 2) (cond (eqb (n % 2) 1) (multiplication (withDims s (s .dims + addedDims (s .flavor))) s r x ample .coefs) r) (squared s x)
+    raised s k (n / 2) (cond (eqb (n % 2) 1) (multiplication (withDims s (s .dims + addedDims (s .flavor))) s r x ample .coefs) r) (squareOf s x)
 
 -- A power of at most 31 digits.
 unfoldable pub byDigits : Shape → ℕ → List Float → List Float
@@ -51,7 +51,7 @@ byDigits s n x = raised s 31 n (scalar (s .dims) unity (s .flavor) ample .coefs)
 
 -- x to the n.
 unfoldable pub raisedTo : Shape → ℕ → List Float → List Float
-raisedTo s n x = cond (eqb n 1) x (cond (eqb n 2) (squared s x) (byDigits s n x))
+raisedTo s n x = cond (eqb n 1) x (cond (eqb n 2) (squareOf s x) (byDigits s n x))
 
 -- A negative power is that of the inverse.
 unfoldable pub powerOf : Shape → ℤ → List Float → List Float

@@ -18,7 +18,7 @@ ghost use lib.ListN.{length, getD, set, take};
 ghost use Rattle.masks.specs.Outcome.{Gives, laid};
 ghost use Rattle.arithmetic.specs.Scalar.{testOf, wasPlanar};
 ghost use Rattle.arithmetic.specs.Scale.{reciprocal};
-ghost use Rattle.arithmetic.specs.Inverse.{squared, lessScalar, bySquare, nanified, generalInverse, inverseOf, inverse};
+ghost use Rattle.arithmetic.specs.Inverse.{squareOf, lessScalar, bySquare, nanified, generalInverse, inverseOf, inverse};
 
 // Whether the scalar test answered planar.
 pub(crate) fn was_planar(test: ScalarTest) -> bool
@@ -34,7 +34,7 @@ pub(crate) fn was_planar(test: ScalarTest) -> bool
 // The value squared by the pairwise product, at the front of the output.
 pub(crate) fn put_square(shape: Shape, x: &[f64], out: &mut [f64])
     requires { ⌜ (shape .dims ≤ 9) × (length (now x) ≡ 2 ^ (shape .dims)) × (2 ^ (shape .dims) ≤ length (now out)) ⌝ }
-    ensures { λ _. ⌜ now (out .exit) ≡ laid (squared shape (now (x .entry))) (now (out .entry)) ⌝ }
+    ensures { λ _. ⌜ now (out .exit) ≡ laid (squareOf shape (now (x .entry))) (now (out .entry)) ⌝ }
 {
     general_product(shape, shape, x, x, out);
 }
@@ -42,7 +42,7 @@ pub(crate) fn put_square(shape: Shape, x: &[f64], out: &mut [f64])
 // The scalar test of x squared, x being the value with -s added at place 0, s.
 fn test_square(shape: Shape, a: &[f64]) -> ScalarTest
     requires { ⌜ (shape .dims ≤ 9) × (length (now a) ≡ 2 ^ (shape .dims)) ⌝ }
-    ensures { λ r. ⌜ r ≡ testOf shape (squared shape (lessScalar (now (a .entry)))) ⌝ }
+    ensures { λ r. ⌜ r ≡ testOf shape (squareOf shape (lessScalar (now (a .entry)))) ⌝ }
 {
     let mut x = [0.0; 512];
     let mut square = [0.0; 512];

@@ -24,7 +24,7 @@ ghost use Rattle.masks.specs.Outcome.{Gives, laid, refusal};
 ghost use Rattle.masks.specs.Shape.{withDims};
 ghost use Rattle.arithmetic.specs.Scalar.{testOf, wasPlanar};
 ghost use Rattle.arithmetic.specs.Operators.{multiplication};
-ghost use Rattle.arithmetic.specs.Inverse.{squared};
+ghost use Rattle.arithmetic.specs.Inverse.{squareOf};
 ghost use Rattle.arithmetic.specs.Power.{isNegative, sizeOf, isDirect, powerDims, byDigits, raisedTo, powerOf, powerTests, power};
 
 // The power's size.
@@ -93,7 +93,7 @@ fn mul_front(grown: Shape, shape: Shape, x: &[f64], out: &mut [f64])
 // The value in the front of the base becomes its square.
 fn square_front(shape: Shape, n: usize, base: &mut [f64])
     requires { ⌜ (shape .dims ≤ 9) × (n ≡ 2 ^ (shape .dims)) × (n ≤ length (now base)) ⌝ }
-    ensures { λ _. ⌜ now (base .exit) ≡ laid (squared shape (take n (now (base .entry)))) (now (base .entry)) ⌝ }
+    ensures { λ _. ⌜ now (base .exit) ≡ laid (squareOf shape (take n (now (base .entry)))) (now (base .entry)) ⌝ }
 {
     let mut next = [0.0; 512];
     put_square(shape, &base[0..n], &mut next);

@@ -16,7 +16,7 @@ use borrow.Author.Tests.{lt-ltb, le-ltb}
 use Rattle.clifford.specs.Metric.{metric}
 use Rattle.clifford.specs.Sum.{δ}
 use Rattle.clifford.specs.Placed.{stands}
-use Rattle.clifford.specs.Algebra.{Clifford, value}
+use Rattle.clifford.specs.Algebra.{Clifford, wordValue}
 use Rattle.clifford.specs.Product.{Bijection, multiply}
 use Rattle.clifford.specs.Multivector.{Multivector}
 use Rattle.clifford.proofs.Ring.{mul-assoc, neg-mul, one-mul}
@@ -141,18 +141,18 @@ module _ (g : ℕ → ℤ) (d : ℕ) (order place : ℕ → ℕ) (inverse : Bije
 
   -- ---- the words of masks
 
-  word-vector : (n : ℕ) → n < d → value algebra (stands d (2 ^ n)) ≡ blade (2 ^ n)
-  unfolding value algebra
+  word-vector : (n : ℕ) → n < d → wordValue algebra (stands d (2 ^ n)) ≡ blade (2 ^ n)
+  unfolding wordValue algebra
   word-vector n l = rw (stands-vector d n l) (unit-r (blade (2 ^ n)))
 
   -- After the vectors of the mask a comes the vector n above them.
-  word-step : (n a : ℕ) → n < d → a < 2 ^ n → value algebra (stands d a) ≡ blade a → value algebra (stands d (bitXor a (2 ^ n))) ≡ blade (bitXor a (2 ^ n))
+  word-step : (n a : ℕ) → n < d → a < 2 ^ n → wordValue algebra (stands d a) ≡ blade a → wordValue algebra (stands d (bitXor a (2 ^ n))) ≡ blade (bitXor a (2 ^ n))
   unfolding algebra
-  word-step n a l h below = unsigned (metric g d a (2 ^ n)) (metric-above g d n a h) (value algebra (stands d (bitXor a (2 ^ n)))) (blade (bitXor a (2 ^ n)))
+  word-step n a l h below = unsigned (metric g d a (2 ^ n)) (metric-above g d n a h) (wordValue algebra (stands d (bitXor a (2 ^ n)))) (blade (bitXor a (2 ^ n)))
       (sym (stands-times algebra a (2 ^ n)) ∙ ap₂ (λ x y. x · y) below (word-vector n l) ∙ blades-times a (2 ^ n) (omega (arith, pow-lt l)) (pow-lt l))
 
-  word-blade : (n : ℕ) → n ≤ d → (m : ℕ) → m < 2 ^ n → value algebra (stands d m) ≡ blade m
-  unfolding value algebra
+  word-blade : (n : ℕ) → n ≤ d → (m : ℕ) → m < 2 ^ n → wordValue algebra (stands d m) ≡ blade m
+  unfolding wordValue algebra
   word-blade zero l m h = rw (none m h, stands-scalar d)
     where
       none : (m : ℕ) → m < 1 → m ≡ 0
@@ -167,5 +167,5 @@ module _ (g : ℕ → ℤ) (d : ℕ) (order place : ℕ → ℕ) (inverse : Bije
       joined k = above n (m - 2 ^ n) (omega arith) ∙ omega arith
 
   -- The vectors of a mask, multiplied in the order that it stands for, are 1 at the mask's place and 0 elsewhere.
-  pub stands-placed : (m : ℕ) → m < 2 ^ d → (k : ℕ) → value algebra (stands d m) .coefficient k ≡ δ (place m) k
+  pub stands-placed : (m : ℕ) → m < 2 ^ d → (k : ℕ) → wordValue algebra (stands d m) .coefficient k ≡ δ (place m) k
   stands-placed m h k = ap (λ (x : Multivector d). x .coefficient k) (word-blade d (le-refl d) m h) ∙ ap (λ (f : ℕ → ℤ). f k) (blade-is m h)

@@ -11,7 +11,7 @@ use Rattle.clifford.specs.Metric.{swaps, shared, turned, metric}
 use Rattle.clifford.specs.Relations.{word}
 use Rattle.clifford.specs.Placed.{stands}
 use Rattle.clifford.specs.Sum.{sum, total, δ}
-use Rattle.clifford.specs.Product.{multiply, reverse}
+use Rattle.clifford.specs.Product.{multiply, reverseWhole}
 use Rattle.clifford.specs.Pairs.{within, pairs, nulls}
 use Rattle.clifford.proofs.PairsLaws.{pairs-all, pairs-left, pairs-inner}
 
@@ -69,12 +69,12 @@ unfolding metric turned swaps total shared count has sign pow one
 e1-squared = refl
 
 -- The reverse of e31 is its negative; that of a vector is itself.
-e31-reversed : reverse 3 order (δ 5) 5 ≡ negsuc 0
-unfolding reverse reversal count has δ
+e31-reversed : reverseWhole 3 order (δ 5) 5 ≡ negsuc 0
+unfolding reverseWhole reversal count has δ
 e31-reversed = refl
 
-e3-reversed : reverse 3 order (δ 3) 3 ≡ pos 1
-unfolding reverse reversal count has δ
+e3-reversed : reverseWhole 3 order (δ 3) 3 ≡ pos 1
+unfolding reverseWhole reversal count has δ
 e3-reversed = refl
 
 -- In three dimensions Vanilla has 64 pairs in All, 27 in Left and 46 in Inner, and Projective has 48 in All.

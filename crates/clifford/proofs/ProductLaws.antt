@@ -9,7 +9,7 @@ use Rattle.clifford.specs.Blade.{has, count}
 use Rattle.clifford.specs.Sign.{reversal}
 use Rattle.clifford.specs.Metric.{metric}
 use Rattle.clifford.specs.Sum.{sum, δ}
-use Rattle.clifford.specs.Product.{Bijection, multiply, reverse}
+use Rattle.clifford.specs.Product.{Bijection, multiply, reverseWhole}
 use Rattle.clifford.proofs.Ring.{product}
 use Rattle.clifford.proofs.BladeLaws.{xor-assoc, xor-cancel}
 use Rattle.clifford.proofs.MetricLaws.{metric-cocycle, metric-reversal, metric-zero-l, metric-zero-r}
@@ -71,8 +71,8 @@ module _ (g : ℕ → ℤ) (d : ℕ) (order place : ℕ → ℕ) (inverse : Bije
 
   -- The reverse of a product is the product of the reverses, the other way round.
   pub reverse-multiply : (a b : ℕ → ℤ) (k : ℕ)
-      → reverse d order (multiply g d order place a b) k ≡ multiply g d order place (reverse d order b) (reverse d order a) k
-  unfolding multiply reverse times weighed
+      → reverseWhole d order (multiply g d order place a b) k ≡ multiply g d order place (reverseWhole d order b) (reverseWhole d order a) k
+  unfolding multiply reverseWhole times weighed
   reverse-multiply a b k = times-signed (2 ^ d) meet (λ i j. metric g d (order i) (order j)) (λ i. reversal (count d (has (order i))))
       (λ i j hi hj. ap place (xor-comm (order i) (order j)))
       (λ i j hi hj. rw (order-meet i j hi hj) (metric-reversal g d (order i) (order j)))

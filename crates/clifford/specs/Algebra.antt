@@ -26,7 +26,7 @@ pub record Clifford (A : Type 0) (g : ℕ → ℤ) (d : ℕ) : Type 0 where
 module _ {A : Type 0} {g : ℕ → ℤ} {d : ℕ} (K : Clifford A g d) where
   open Clifford K using (_·_, unit, e)
 
-  -- `value` multiplies the vectors of a word.
-  unfoldable pub value : List ℕ → A
-  value [] = unit
-  value (i ∷ w) = e i · value w
+  -- `wordValue` multiplies the vectors of a word.
+  unfoldable pub wordValue : List ℕ → A
+  wordValue [] = unit
+  wordValue (i ∷ w) = e i · wordValue w

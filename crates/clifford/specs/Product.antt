@@ -20,6 +20,6 @@ unfoldable pub multiply : (ℕ → ℤ) → ℕ → (ℕ → ℕ) → (ℕ → �
 multiply g d order place a b k =
     sum (2 ^ d) (λ j. sum (2 ^ d) (λ i. δ (place (bitXor (order i) (order j))) k *ℤ (metric g d (order i) (order j) *ℤ a i *ℤ b j)))
 
--- `reverse` negates grades 2, 3 mod 4, by the grade of each place's mask.
-unfoldable pub reverse : ℕ → (ℕ → ℕ) → (ℕ → ℤ) → ℕ → ℤ
-reverse d order a k = reversal (count d (has (order k))) *ℤ a k
+-- `reverseWhole` negates grades 2, 3 mod 4, by the grade of each place's mask.
+unfoldable pub reverseWhole : ℕ → (ℕ → ℕ) → (ℕ → ℤ) → ℕ → ℤ
+reverseWhole d order a k = reversal (count d (has (order k))) *ℤ a k

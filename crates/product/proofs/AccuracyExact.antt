@@ -21,8 +21,7 @@ use Rattle.clifford.proofs.CountLaws.{count-total}
 use Rattle.clifford.proofs.SumLaws.{sum-ext, sum-at, total-ext}
 use Rattle.rounding.specs.Signed.{aboveZero, belowZero}
 use Rattle.rounding.specs.Value.{signOf, sizeIn}
-use Rattle.rounding.specs.Terms as Terms
-use Rattle.rounding.specs.Terms.{Term, productSign, productSize, ups, downs}
+use Rattle.rounding.specs.Terms.{Term, liveCount, productSign, productSize, ups, downs, sizesTotal}
 use Rattle.rounding.proofs.SignedLaws.{parts}
 use Rattle.masks.specs.declared.flavor.Flavor.{Flavor}
 use Rattle.masks.specs.Order.{place}
@@ -140,17 +139,17 @@ metric-mul m u s t x y = go u
 
 -- ---- the terms' counts, sizes and sums
 
-count-terms : (ts : ℕ → Term) (n : ℕ) → total n (λ j. cond (ts j .live) 1 0) ≡ Terms.count ts n
+count-terms : (ts : ℕ → Term) (n : ℕ) → total n (λ j. cond (ts j .live) 1 0) ≡ liveCount ts n
 unfolding total
 count-terms ts zero = refl
-count-terms ts (suc n) = ap (λ (x : ℕ). x + cond (ts n .live) 1 0) (count-terms ts n) ∙ go (ts n .live) (Terms.count ts n)
+count-terms ts (suc n) = ap (λ (x : ℕ). x + cond (ts n .live) 1 0) (count-terms ts n) ∙ go (ts n .live) (liveCount ts n)
   where
     go : (t : Bool) (x : ℕ) → x + cond t 1 0 ≡ cond t (suc x) x
     go true x = omega arith
     go false x = omega arith
 
 module _ (p q : ℕ) (ts : ℕ → Term) where
-  size-terms : (n : ℕ) → total n (λ j. cond (ts j .live) (productSize p q (ts j)) 0) ≡ Terms.total p q ts n
+  size-terms : (n : ℕ) → total n (λ j. cond (ts j .live) (productSize p q (ts j)) 0) ≡ sizesTotal p q ts n
   unfolding total
   size-terms zero = refl
   size-terms (suc n) =
@@ -182,14 +181,14 @@ module _ (p q : ℕ) (ts : ℕ → Term) where
 -- ---- one coefficient's numbers are those of its gathered terms
 
 module _ (mode : Mode) (flavor : Flavor) (d k : ℕ) (h : k < 2 ^ d) (a b : List Float) where
-  pub contributing-count : contributing mode flavor d k ≡ Terms.count (gathered mode flavor d a b k) (2 ^ d)
+  pub contributing-count : contributing mode flavor d k ≡ liveCount (gathered mode flavor d a b k) (2 ^ d)
   unfolding contributing gathered
   contributing-count =
       total-ext (2 ^ d) _ _ (λ j _. count-total (2 ^ d) (λ i. contributes mode flavor d k i j))
       ∙ pairs-by-place 0 total total-ext total-pick mode flavor d k h (λ i j. 1)
       ∙ count-terms (gathered mode flavor d a b k) (2 ^ d)
 
-  pub exact-sizes-total : (p q : ℕ) → exactSizes mode flavor d k p q a b ≡ Terms.total p q (gathered mode flavor d a b k) (2 ^ d)
+  pub exact-sizes-total : (p q : ℕ) → exactSizes mode flavor d k p q a b ≡ sizesTotal p q (gathered mode flavor d a b k) (2 ^ d)
   unfolding exactSizes gathered
   exact-sizes-total p q =
       pairs-by-place 0 total total-ext total-pick mode flavor d k h (λ i j. exactSizeAt p a i * exactSizeAt q b j)

@@ -49,7 +49,7 @@ total-pick (suc n) k f h = elim (ℕ-discrete k n) [
   | no e ↦ rw (ne-eqb k n e, add-zero) (total-pick n k f (omega arith))
 ]
 
--- A sum may go through its indices in the order p, where q tells each one's place in it.
+-- A sum may go through its indices in the order p, where q gives each one's place in it.
 module _ (n : ℕ) (p q : ℕ → ℕ) (p-low : (i : ℕ) → i < n → p i < n) (q-low : (m : ℕ) → m < n → q m < n)
     (back : (i : ℕ) → i < n → q (p i) ≡ i) (forth : (m : ℕ) → m < n → p (q m) ≡ m) where
   same-test : (i m : ℕ) → i < n → m < n → eqb (p i) m ≡ eqb (q m) i

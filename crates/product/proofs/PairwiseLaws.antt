@@ -35,7 +35,7 @@ use Rattle.product.proofs.PairwisePartners.{partner-place, place-at-lt,
 use Rattle.product.proofs.ListLaws.{by-places}
 use Rattle.product.proofs.PairwiseZero.{run-never-minus-zero}
 
--- A test of h against one number more tells the same, unless h is that number.
+-- A test of h against one number more gives the same, unless h is that number.
 ltb-other : (h n : ℕ) → h ≢ n → ltb h n ≡ ltb h (suc n)
 ltb-other h n e = elim (decLt h n) [
   | yes l ↦ lt-ltb h n l ∙ sym (lt-ltb h (suc n) (omega arith))

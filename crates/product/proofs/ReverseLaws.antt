@@ -15,7 +15,7 @@ use lib.ListN.{getD}
 use Rattle.clifford.specs.Blade.{has, count}
 use Rattle.clifford.specs.Sign.{reversal}
 use Rattle.clifford.specs.Pairs.{nonzero}
-use Rattle.clifford.specs.Product.{reverse}
+use Rattle.clifford.specs.Product.{reverseWhole}
 use Rattle.clifford.proofs.Ring.{one-mul, neg-mul}
 use Rattle.clifford.proofs.SumLaws.{total-ext}
 use Rattle.clifford.proofs.CountLaws.{count-ones}
@@ -63,7 +63,7 @@ value-negated true u (fin false m e) = refl
 
 -- ---- each coefficient
 
--- `turns m` tells whether `reversed` negates the coefficient of a mask.
+-- `turns m` says whether `reversed` negates the coefficient of a mask.
 abbrev turns : ℕ → Bool
 turns m = not (ltb (ones m % 4) 2)
 
@@ -88,8 +88,8 @@ module _ (d : ℕ) (a : List Float) where
   pub reversed-size : (p k : ℕ) → k < 2 ^ d → exactSizeAt p (reversed d a) k ≡ exactSizeAt p a k
   reversed-size p k h = ap (sizeIn p) (reversed-at k h) ∙ size-negated (turns (maskAt d k)) p (getD a k nan)
 
-  pub reversed-value : (p k : ℕ) → k < 2 ^ d → exactValueAt p (reversed d a) k ≡ reverse d (maskAt d) (exactValueAt p a) k
-  unfolding reverse reversal
+  pub reversed-value : (p k : ℕ) → k < 2 ^ d → exactValueAt p (reversed d a) k ≡ reverseWhole d (maskAt d) (exactValueAt p a) k
+  unfolding reverseWhole reversal
   reversed-value p k h =
       ap (valueIn p) (reversed-at k h) ∙ value-negated (turns (maskAt d k)) p (getD a k nan)
       ∙ rw (count-ones d (maskAt d k) (order-at d k h .low)) (by-sign (ltb (ones (maskAt d k) % 4) 2) (exactValueAt p a k))
@@ -98,9 +98,9 @@ module _ (d : ℕ) (a : List Float) where
       by-sign true z = sym (one-mul z)
       by-sign false z = sym (neg-mul (pos 1) z ∙ ap negℤ (one-mul z))
 
--- `reverse` at a place rests on the coefficient there alone.
-pub reverse-ext : (d : ℕ) (order : ℕ → ℕ) (a b : ℕ → ℤ) (k : ℕ) → a k ≡ b k → reverse d order a k ≡ reverse d order b k
-unfolding reverse
+-- `reverseWhole` at a place rests on the coefficient there alone.
+pub reverse-ext : (d : ℕ) (order : ℕ → ℕ) (a b : ℕ → ℤ) (k : ℕ) → a k ≡ b k → reverseWhole d order a k ≡ reverseWhole d order b k
+unfolding reverseWhole
 reverse-ext d order a b k e = ap (λ z. reversal (count d (has (order k))) *ℤ z) e
 
 -- ---- the exact sizes of a product

@@ -11,7 +11,7 @@ use Rattle.clifford.specs.Sum.{δ}
 use Rattle.clifford.specs.Metric.{metric}
 use Rattle.clifford.specs.Relations.{Equals}
 use Rattle.clifford.specs.Placed.{stands}
-use Rattle.clifford.specs.Product.{Bijection, reverse}
+use Rattle.clifford.specs.Product.{Bijection, reverseWhole}
 use Rattle.clifford.proofs.Ring.{neg-mul}
 use Rattle.clifford.proofs.PlacedLaws.{metric-derived, metric-unique}
 use Rattle.clifford.proofs.VectorLaws.{metric-squared, metric-exchanged}
@@ -26,8 +26,8 @@ use Rattle.product.specs.Pairwise.{maskAt, metricAt, placeAt}
 use Rattle.product.specs.Whole.{whole, basisVector, unitValue}
 
 -- The order and its inverse of masks are what the algebra asks for.
-pub inverse : (d : ℕ) → Bijection d (maskAt d) (place d)
-inverse d =
+pub bijective : (d : ℕ) → Bijection d (maskAt d) (place d)
+bijective d =
     record {
       order-lt = λ i h. order-at d i h .low;
       place-lt = place-lt d;
@@ -39,17 +39,17 @@ inverse d =
 
 module _ (flavor : Flavor) (d : ℕ) where
   pub groups : (a b c : ℕ → ℤ) (k : ℕ) → whole flavor d (whole flavor d a b) c k ≡ whole flavor d a (whole flavor d b c) k
-  groups = multiply-assoc (metricOf flavor) d (maskAt d) (place d) (inverse d)
+  groups = multiply-assoc (metricOf flavor) d (maskAt d) (place d) (bijective d)
 
   pub unit-left : (b : ℕ → ℤ) (k : ℕ) → k < 2 ^ d → whole flavor d (unitValue d) b k ≡ b k
-  unit-left = unit-multiply (metricOf flavor) d (maskAt d) (place d) (inverse d)
+  unit-left = unit-multiply (metricOf flavor) d (maskAt d) (place d) (bijective d)
 
   pub unit-right : (a : ℕ → ℤ) (k : ℕ) → k < 2 ^ d → whole flavor d a (unitValue d) k ≡ a k
-  unit-right = multiply-unit (metricOf flavor) d (maskAt d) (place d) (inverse d)
+  unit-right = multiply-unit (metricOf flavor) d (maskAt d) (place d) (bijective d)
 
   pub reverses : (a b : ℕ → ℤ) (k : ℕ)
-      → reverse d (maskAt d) (whole flavor d a b) k ≡ whole flavor d (reverse d (maskAt d) b) (reverse d (maskAt d) a) k
-  reverses = reverse-multiply (metricOf flavor) d (maskAt d) (place d) (inverse d)
+      → reverseWhole d (maskAt d) (whole flavor d a b) k ≡ whole flavor d (reverseWhole d (maskAt d) b) (reverseWhole d (maskAt d) a) k
+  reverses = reverse-multiply (metricOf flavor) d (maskAt d) (place d) (bijective d)
 
   -- Two basis vectors multiply to their metric at the place of their masks' xor.
   vectors : (i j : ℕ) → i < d → j < d → (k : ℕ)

@@ -5,7 +5,7 @@ use mathlib.Core.Bool.{true, false}
 use lib.IntN.{pos, negsuc}
 use lib.Ieee.{nan, inf, fin, binary64, size, add, mul, ofBits, round}
 use Rattle.rounding.specs.Round.{rnd}
-use Rattle.rounding.specs.Terms.{Term, run, count, ups, downs}
+use Rattle.rounding.specs.Terms.{Term, run, liveCount, ups, downs}
 use Rattle.rounding.specs.Snap.{snap}
 
 -- ---- Three digits are kept of 19 (10011), 21 (10101) and 18 (10010), which lies between 16 and 20 and goes to the even one.
@@ -31,7 +31,7 @@ run-nine : run binary64 terms 3 ≡ fin true 9 (pos 0)
 unfolding terms add mul
 run-nine = refl
 
-count-two : count terms 3 ≡ 2
+count-two : liveCount terms 3 ≡ 2
 unfolding terms
 count-two = refl
 

@@ -11,7 +11,7 @@ use lib.Ieee.{Float, nan, inf, fin, Format, binary32, binary64, prec, low, up, d
 use lib.Ieee.Fits.{down-pos}
 use Rattle.rounding.specs.Operation.{cap}
 use Rattle.rounding.specs.Value.{sizeIn, Whole, Close}
-use Rattle.rounding.specs.Terms.{Term, run, count, productSize, ups, downs, total, OnGrid}
+use Rattle.rounding.specs.Terms.{Term, run, liveCount, productSize, ups, downs, sizesTotal, OnGrid}
 use Rattle.rounding.specs.Sized.{Sized, InRange, reach, grain, grainOf}
 use Rattle.rounding.proofs.ValueLaws.{zero-whole, whole-exp}
 use Rattle.rounding.proofs.FitsLaws.{prec-pos, fits-prec}
@@ -49,13 +49,13 @@ pub product-le : (f : Format) (r : ℕ) (t : Term) → InRange f r t → product
 product-le f r t c = let k = range-grid f r t c in mul-le-mul (sized-le (grain f r) r (t .left) (k .1) (c .2)) (sized-le (grain f r) r (t .right) (k .2) (c .3))
 
 -- ---- The sum: within (count + 1) * T * 2 ^ -prec of the exact one.
-pub sum-of-512 : (f : Format) (ts : ℕ → Term) (n : ℕ) → count ts n ≤ 512 → ((i : ℕ) → i < n → T (ts i .live) → InRange f (reach f) (ts i))
-    → Close f (grainOf f + grainOf f) (run f ts n) (suc (count ts n) * total (grainOf f) (grainOf f) ts n) (ups (grainOf f) (grainOf f) ts n) (downs (grainOf f) (grainOf f) ts n)
+pub sum-of-512 : (f : Format) (ts : ℕ → Term) (n : ℕ) → liveCount ts n ≤ 512 → ((i : ℕ) → i < n → T (ts i .live) → InRange f (reach f) (ts i))
+    → Close f (grainOf f + grainOf f) (run f ts n) (suc (liveCount ts n) * sizesTotal (grainOf f) (grainOf f) ts n) (ups (grainOf f) (grainOf f) ts n) (downs (grainOf f) (grainOf f) ts n)
 sum-of-512 f ts n l q =
     let g = grainOf f in
     let M = 2 ^ (reach f + g) * 2 ^ (reach f + g) in
     sum-near f g g ts n (on-low f) (λ i j k. range-grid f (reach f) (ts i) (q i j k)) (le-trans l (lit≤ tt))
-    (chain (count ts n) (total g g ts n) M (cap f (g + g)) l (total-le f g g ts n M (λ i j k. product-le f (reach f) (ts i) (q i j k))) (top-fits f))
+    (chain (liveCount ts n) (sizesTotal g g ts n) M (cap f (g + g)) l (total-le f g g ts n M (λ i j k. product-le f (reach f) (ts i) (q i j k))) (top-fits f))
   where
     on-low : (f : Format) → grainOf f + grainOf f ≤ low f
     on-low binary32 = lit≤ tt

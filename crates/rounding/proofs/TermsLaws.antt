@@ -13,7 +13,7 @@ use Rattle.rounding.specs.Round.{rnd}
 use Rattle.rounding.specs.Signed.{aboveZero, belowZero}
 use Rattle.rounding.specs.Operation.{cap, signedOne}
 use Rattle.rounding.specs.Value.{signOf, sizeIn, Close, Exact}
-use Rattle.rounding.specs.Terms.{Term, prod, run, count, productSign, productSize, rise, fall, ups, downs, total, OnGrid}
+use Rattle.rounding.specs.Terms.{Term, prod, run, liveCount, productSign, productSize, rise, fall, ups, downs, sizesTotal, OnGrid}
 use Rattle.rounding.proofs.RoundLaws.{rnd-near, rnd-idem, rnd-small}
 use Rattle.rounding.proofs.SignedLaws.{parts, sum-le, zero-plus, ErrorAfter, below-cap, first-step, next-small, next-step, last-step}
 use Rattle.rounding.proofs.ValueLaws.{zero-value}
@@ -99,7 +99,7 @@ exact-step f u x y t X p m L v c i =
 module _ (f : Format) (g h : ℕ) (ts : ℕ → Term) (Q : Term → Type 0) (P : Float → ℕ → ℕ → ℕ → Type 0) (K B : ℕ) (none : P (fin false 0 (pos 0)) 0 0 0)
     (one : (t : Term) (x : Float) (k p m : ℕ) → Q t → k < K → p + rise g h t + (m + fall g h t) ≤ B → P x k p m
     → P (add f x (prod f t)) (suc k) (p + rise g h t) (m + fall g h t)) where
-  pub along : (n : ℕ) → ((i : ℕ) → i < n → T (ts i .live) → Q (ts i)) → count ts n ≤ K → total g h ts n ≤ B → P (run f ts n) (count ts n) (ups g h ts n) (downs g h ts n)
+  pub along : (n : ℕ) → ((i : ℕ) → i < n → T (ts i .live) → Q (ts i)) → liveCount ts n ≤ K → sizesTotal g h ts n ≤ B → P (run f ts n) (liveCount ts n) (ups g h ts n) (downs g h ts n)
   along zero q c b = none
   along (suc n) q c b = go (t .live) (q n (le-refl (suc n))) c b (along n (λ i l. q i (le-trans l (le-suc n))))
     where
@@ -113,7 +113,7 @@ module _ (f : Format) (g h : ℕ) (ts : ℕ → Term) (Q : Term → Type 0) (P :
       W = downs g h ts n
 
       k : ℕ
-      k = count ts n
+      k = liveCount ts n
 
       x : Float
       x = run f ts n
@@ -123,11 +123,11 @@ module _ (f : Format) (g h : ℕ) (ts : ℕ → Term) (Q : Term → Type 0) (P :
       go true q c b i = one t x k U W (q tt) c b (i (omega arith) (omega arith))
       go false q c b i = i c b
 
-pub count-le : (ts : ℕ → Term) (n : ℕ) → count ts n ≤ n
+pub count-le : (ts : ℕ → Term) (n : ℕ) → liveCount ts n ≤ n
 count-le ts zero = le-refl 0
 count-le ts (suc n) = go (ts n .live) (count-le ts n)
   where
-    go : (b : Bool) → count ts n ≤ n → cond b (suc (count ts n)) (count ts n) ≤ suc n
+    go : (b : Bool) → liveCount ts n ≤ n → cond b (suc (liveCount ts n)) (liveCount ts n) ≤ suc n
     go true h = omega arith
     go false h = omega arith
 
@@ -136,32 +136,32 @@ run-fits f ts zero = unfold fits in tt
 run-fits f ts (suc n) = cond-fits f (ts n .live) (add f (run f ts n) (prod f (ts n))) (run f ts n) (add-fits f (run f ts n) (prod f (ts n))) (run-fits f ts n)
 
 module _ (f : Format) (g h : ℕ) (ts : ℕ → Term) (n : ℕ) where
-  pub total-le : (M : ℕ) → ((i : ℕ) → i < n → T (ts i .live) → productSize g h (ts i) ≤ M) → total g h ts n ≤ count ts n * M
+  pub total-le : (M : ℕ) → ((i : ℕ) → i < n → T (ts i .live) → productSize g h (ts i) ≤ M) → sizesTotal g h ts n ≤ liveCount ts n * M
   total-le M q =
-      along f g h ts (λ t. productSize g h t ≤ M) (λ x k p m. p + m ≤ k * M) (count ts n) (total g h ts n) (omega arith)
-      (λ t x k p m l c b i. omega (arith, parts (productSign t) (productSize g h t))) n q (le-refl (count ts n)) (le-refl (total g h ts n))
+      along f g h ts (λ t. productSize g h t ≤ M) (λ x k p m. p + m ≤ k * M) (liveCount ts n) (sizesTotal g h ts n) (omega arith)
+      (λ t x k p m l c b i. omega (arith, parts (productSign t) (productSize g h t))) n q (le-refl (liveCount ts n)) (le-refl (sizesTotal g h ts n))
 
   module _ (L : g + h ≤ low f) (q : (i : ℕ) → i < n → T (ts i .live) → OnGrid f g h (ts i)) where
     -- The sum is within (count + 1) * T * 2 ^ -prec of the exact one.
-    pub sum-near : count ts n ≤ 1024 → 4 * total g h ts n < cap f (g + h) → Close f (g + h) (run f ts n) (suc (count ts n) * total g h ts n) (ups g h ts n) (downs g h ts n)
+    pub sum-near : liveCount ts n ≤ 1024 → 4 * sizesTotal g h ts n < cap f (g + h) → Close f (g + h) (run f ts n) (suc (liveCount ts n) * sizesTotal g h ts n) (ups g h ts n) (downs g h ts n)
     sum-near l c =
-        track-close f (g + h) (run f ts n) (count ts n) (ups g h ts n) (downs g h ts n) l
-        (along f g h ts (OnGrid f g h) (Track f (g + h)) 1024 (total g h ts n) (zero-value (g + h), refl, refl) step n q l (le-refl (total g h ts n)))
+        track-close f (g + h) (run f ts n) (liveCount ts n) (ups g h ts n) (downs g h ts n) l
+        (along f g h ts (OnGrid f g h) (Track f (g + h)) 1024 (sizesTotal g h ts n) (zero-value (g + h), refl, refl) step n q l (le-refl (sizesTotal g h ts n)))
       where
-        step : (t : Term) (x : Float) (k p m : ℕ) → OnGrid f g h t → k < 1024 → p + rise g h t + (m + fall g h t) ≤ total g h ts n → Track f (g + h) x k p m
+        step : (t : Term) (x : Float) (k p m : ℕ) → OnGrid f g h t → k < 1024 → p + rise g h t + (m + fall g h t) ≤ sizesTotal g h ts n → Track f (g + h) x k p m
             → Track f (g + h) (add f x (prod f t)) (suc k) (p + rise g h t) (m + fall g h t)
         step t x k p m o j b i =
             let s = productSign t in
             let X = productSize g h t in
-            let w : X ≤ total g h ts n = omega (arith, parts s X) in
-            track-step f (g + h) x (prod f t) s X L (prod-law f g h t L o (round-cap f X (total g h ts n) (cap f (g + h)) w c)) k p m (omega (arith, room f)) (omega arith) i
+            let w : X ≤ sizesTotal g h ts n = omega (arith, parts s X) in
+            track-step f (g + h) x (prod f t) s X L (prod-law f g h t L o (round-cap f X (sizesTotal g h ts n) (cap f (g + h)) w c)) k p m (omega (arith, room f)) (omega arith) i
 
     -- Where T is at most 2 ^ prec units, the sum is the exact one.
-    pub sum-exact : total g h ts n ≤ 2 ^ prec f → Exact (g + h) (run f ts n) (ups g h ts n) (downs g h ts n)
+    pub sum-exact : sizesTotal g h ts n ≤ 2 ^ prec f → Exact (g + h) (run f ts n) (ups g h ts n) (downs g h ts n)
     sum-exact c =
-        along f g h ts (OnGrid f g h) (λ x k p m. Exact (g + h) x p m) (count ts n) (2 ^ prec f) (record { sign = false; amount = 0; value = zero-value (g + h); exact = refl }) step n q (le-refl (count ts n)) c
+        along f g h ts (OnGrid f g h) (λ x k p m. Exact (g + h) x p m) (liveCount ts n) (2 ^ prec f) (record { sign = false; amount = 0; value = zero-value (g + h); exact = refl }) step n q (le-refl (liveCount ts n)) c
       where
-        step : (t : Term) (x : Float) (k p m : ℕ) → OnGrid f g h t → k < count ts n → p + rise g h t + (m + fall g h t) ≤ 2 ^ prec f → Exact (g + h) x p m
+        step : (t : Term) (x : Float) (k p m : ℕ) → OnGrid f g h t → k < liveCount ts n → p + rise g h t + (m + fall g h t) ≤ 2 ^ prec f → Exact (g + h) x p m
             → Exact (g + h) (add f x (prod f t)) (p + rise g h t) (m + fall g h t)
         step t x k p m o j b i =
             let s = productSign t in

@@ -25,9 +25,9 @@ run f ts zero = fin false 0 (pos 0)
 run f ts (suc n) = cond (ts n .live) (add f (run f ts n) (prod f (ts n))) (run f ts n)
 
 -- How many of the first n terms are live.
-abbrev pub count : (ℕ → Term) → ℕ → ℕ
-count ts zero = 0
-count ts (suc n) = cond (ts n .live) (suc (count ts n)) (count ts n)
+abbrev pub liveCount : (ℕ → Term) → ℕ → ℕ
+liveCount ts zero = 0
+liveCount ts (suc n) = cond (ts n .live) (suc (liveCount ts n)) (liveCount ts n)
 
 -- The sign of a term's exact product.
 abbrev pub productSign : Term → Bool
@@ -56,8 +56,8 @@ downs g h ts zero = 0
 downs g h ts (suc n) = cond (ts n .live) (downs g h ts n + fall g h (ts n)) (downs g h ts n)
 
 -- The sum of the sizes of the live exact products: T of the bound (n + 1) x T x 2 ^ -prec.
-abbrev pub total : ℕ → ℕ → (ℕ → Term) → ℕ → ℕ
-total g h ts n = ups g h ts n + downs g h ts n
+abbrev pub sizesTotal : ℕ → ℕ → (ℕ → Term) → ℕ → ℕ
+sizesTotal g h ts n = ups g h ts n + downs g h ts n
 
 -- A term's factors are finite and whole numbers of 2 ^ -g and 2 ^ -h, and the format holds the left one.
 abbrev pub OnGrid : Format → ℕ → ℕ → Term → Type 0

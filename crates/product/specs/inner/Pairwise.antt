@@ -15,7 +15,7 @@ use Rattle.product.specs.declared.mode.Mode.{Mode}
 use Rattle.product.specs.Mode.{pairMetric}
 use Rattle.product.specs.Pairwise.{maskAt}
 
--- `negative` tells whether a metric is below zero.
+-- A metric is below zero.
 abbrev pub negative : ℤ → Bool
 negative (pos n) = false
 negative (negsuc n) = true

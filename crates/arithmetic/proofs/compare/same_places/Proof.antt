@@ -23,7 +23,7 @@ apart (x ∷ a) [] h = refl
 apart (x ∷ a) (y ∷ b) h = rw (apart a b (λ e. h (ap suc e))) (and-false (sameNumber x y))
 
 module _ (a b : List Float) (i : ℕ) where
-  -- At place i the numbers agree or not, as t tells.
+  -- At place i the numbers agree or not, as t says.
   at-place : (t : Bool) → i < length a → i < length b → sameNumber (getD a i nan) (getD b i nan) ≡ t → samePlaces (drop i a) (drop i b) ≡ (t && samePlaces (drop (i + 1) a) (drop (i + 1) b))
   unfolding samePlaces
   at-place t h k e = rw (drop-cons a i nan h, drop-cons b i nan k, e, add-one i)

@@ -13,7 +13,7 @@ use Rattle.masks.specs.Outcome.{Gives, laid}
 use Rattle.masks.specs.Shape.{setDims}
 use Rattle.arithmetic.specs.declared.scalar.ScalarTest.{ScalarTest}
 use Rattle.arithmetic.specs.Scalar.{testOf, ifScalar}
-use Rattle.arithmetic.specs.Inverse.{squared, lessScalar, bySquare, nanified, generalInverse}
+use Rattle.arithmetic.specs.Inverse.{squareOf, lessScalar, bySquare, nanified, generalInverse}
 use Rattle.arithmetic.proofs.KeptLaws.{Accepted, copy-whole, relaid, first-laid}
 use Rattle.arithmetic.proofs.InverseLaws.{less-scalar-length, by-square-length}
 use Rattle.arithmetic.proofs.inverse.put_general.Statement.{statement}
@@ -30,7 +30,7 @@ by-copy s a r before mid after q g f e =
     ∙ ap (λ (x : Float). laid (bySquare x (lessScalar a) q) before) first
 
 -- What the test of the square answers decides.
-general-by : (s : Shape) (a out : List Float) (t u : ScalarTest) → t ≡ testOf s (squared s (lessScalar a)) → t ≡ u
+general-by : (s : Shape) (a out : List Float) (t u : ScalarTest) → t ≡ testOf s (squareOf s (lessScalar a)) → t ≡ u
     → laid (ifScalar u (bySquare (getD a 0 nan) (lessScalar a)) (nanified (s .dims))) out ≡ laid (generalInverse s a) out
 unfolding generalInverse
 general-by s a out t u e g =

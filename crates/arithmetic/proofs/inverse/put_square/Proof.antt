@@ -12,11 +12,11 @@ use Rattle.product.specs.declared.outcome.Product.{Product}
 use Rattle.product.specs.Accuracy.{Fitting}
 use Rattle.product.specs.Products.{Counted, GivesProduct, generalProduct}
 use Rattle.product.proofs.ProductsLaws.{multiplied-same}
-use Rattle.arithmetic.specs.Inverse.{squared}
+use Rattle.arithmetic.specs.Inverse.{squareOf}
 use Rattle.arithmetic.proofs.inverse.put_square.Statement.{statement}
 use Rattle.arithmetic.proofs.inverse.put_square.Tie as tie
 
-by-itself : (s : Shape) (x out after : List Float) (r : Product) → Fitting s (length out) → length x ≡ 2 ^ s .dims → GivesProduct (generalProduct s s x x (length out)) r out after → after ≡ laid (squared s x) out
+by-itself : (s : Shape) (x out after : List Float) (r : Product) → Fitting s (length out) → length x ≡ 2 ^ s .dims → GivesProduct (generalProduct s s x x (length out)) r out after → after ≡ laid (squareOf s x) out
 by-itself s x out after r f l g =
     g .left ∙ ap (λ (o : Counted). laid (o .outcome .coefs) out) (multiplied-same All s x x (length out) f l l)
 

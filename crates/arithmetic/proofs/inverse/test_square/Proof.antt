@@ -17,7 +17,7 @@ use Rattle.masks.proofs.OrderLaws.{blades-le}
 use Rattle.product.specs.declared.mode.Mode.the-variants.{All}
 use Rattle.product.proofs.PairwiseLaws.{product-length}
 use Rattle.arithmetic.specs.Scalar.{testOf}
-use Rattle.arithmetic.specs.Inverse.{squared, lessScalar}
+use Rattle.arithmetic.specs.Inverse.{squareOf, lessScalar}
 use Rattle.arithmetic.proofs.KeptLaws.{Accepted, copy-whole}
 use Rattle.arithmetic.proofs.InverseLaws.{less-scalar-length}
 use Rattle.arithmetic.proofs.inverse.test_square.Statement.{statement}
@@ -42,11 +42,11 @@ module _ (s : Shape) (a : List Float) (r : Answer) (x copy y : List Float) (g : 
   less-length : length (take (length a - 0) less) ≡ 2 ^ s .dims
   less-length = ap length less-part ∙ less-scalar-length a ∙ f .counted
 
-  square-part : (after : List Float) → after ≡ laid (squared s (take (length a - 0) less)) y → take (length a - 0) after ≡ squared s (lessScalar a)
+  square-part : (after : List Float) → after ≡ laid (squareOf s (take (length a - 0) less)) y → take (length a - 0) after ≡ squareOf s (lessScalar a)
   square-part after e =
-      let k : length (squared s (lessScalar a)) ≡ length a - 0 = product-length All (s .flavor) (s .dims) binary64 (lessScalar a) (lessScalar a) ∙ omega (arith, f .counted) in
-      ap (take (length a - 0)) (e ∙ ap (λ (xs : List Float). laid (squared s xs) y) less-part)
-      ∙ take-laid (length a - 0) (squared s (lessScalar a)) y k
+      let k : length (squareOf s (lessScalar a)) ≡ length a - 0 = product-length All (s .flavor) (s .dims) binary64 (lessScalar a) (lessScalar a) ∙ omega (arith, f .counted) in
+      ap (take (length a - 0)) (e ∙ ap (λ (xs : List Float). laid (squareOf s xs) y) less-part)
+      ∙ take-laid (length a - 0) (squareOf s (lessScalar a)) y k
 
 module _ (s : tie.Start) where
   fits : Accepted (s .args .shape) (s .args .a .now) 512

@@ -9,7 +9,7 @@ use lib.Ieee.{Float}
 use Rattle.masks.specs.declared.shape.Shape.{Shape}
 use Rattle.masks.specs.Flavor.{addedDims}
 use Rattle.masks.specs.Outcome.{laid}
-use Rattle.arithmetic.specs.Inverse.{squared}
+use Rattle.arithmetic.specs.Inverse.{squareOf}
 use Rattle.arithmetic.specs.Power.{isDirect, powerDims, byDigits, raisedTo}
 use Rattle.arithmetic.proofs.PowerLaws.{copied-front}
 use Rattle.arithmetic.proofs.power.raise.Statement.{statement}
@@ -31,7 +31,7 @@ module _ (s : Shape) (p : ℕ) (x : List Float) where
       unfolding powerDims isDirect
       dims-two = rw (ne-eqb p 1 h, eq-eqb p 2 e)
 
-      raised-two : raisedTo s p x ≡ squared s x
+      raised-two : raisedTo s p x ≡ squareOf s x
       unfolding raisedTo
       raised-two = rw (ne-eqb p 1 h, eq-eqb p 2 e)
 

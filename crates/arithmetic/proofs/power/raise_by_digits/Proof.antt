@@ -28,7 +28,7 @@ use Rattle.product.proofs.PairwiseLaws.{product-length}
 use Rattle.arithmetic.specs.Scale.{unity}
 use Rattle.arithmetic.specs.Operators.{multiplication}
 use Rattle.arithmetic.specs.Dual.{ample}
-use Rattle.arithmetic.specs.Inverse.{squared}
+use Rattle.arithmetic.specs.Inverse.{squareOf}
 use Rattle.arithmetic.specs.Power.{raised, byDigits}
 use Rattle.arithmetic.proofs.PowerLaws.{raised-none, raised-next, copied-front, grown-length}
 use Rattle.arithmetic.proofs.power.raise_by_digits.Statement.{statement}
@@ -85,7 +85,7 @@ module _ {s : Shape} {power : ℕ} {x out₀ base₀ out base : List Float} wher
     times = multiplication (grown s) s (t .r) (t .b) ample .coefs
 
     module _ (i : 0 < p) (out′ : List Float) where
-      taken : (r′ : List Float) → r′ ≡ cond (eqb (p % 2) 1) times (t .r) → length r′ ≡ 2 ^ grown s .dims → out′ ≡ laid r′ out₀ → Left s power x out₀ base₀ (squared s) out′ base (p / 2)
+      taken : (r′ : List Float) → r′ ≡ cond (eqb (p % 2) 1) times (t .r) → length r′ ≡ 2 ^ grown s .dims → out′ ≡ laid r′ out₀ → Left s power x out₀ base₀ (squareOf s) out′ base (p / 2)
       taken r′ e l q =
           let j = raised-next s (t .k) p (t .r) (t .b) i (t .few) in
           record {
@@ -97,35 +97,35 @@ module _ {s : Shape} {power : ℕ} {x out₀ base₀ out base : List Float} wher
             wide = t .wide;
             at-out = q;
             at-base = t .at-base;
-            same = ap (λ (ys : List Float). raised s (j .0) (p / 2) ys (squared s (t .b))) e ∙ sym (j .2) ∙ t .same;
+            same = ap (λ (ys : List Float). raised s (j .0) (p / 2) ys (squareOf s (t .b))) e ∙ sym (j .2) ∙ t .same;
           }
 
       odd : (g : Shape) (j : ℕ) → grown s .dims ≤ 9 → g ≡ grown s → j ≡ 2 ^ s .dims → p % 2 ≡ 1
-          → out′ ≡ laid (multiplication g s (take (2 ^ g .dims) out) (take j base) 512 .coefs) out → Left s power x out₀ base₀ (squared s) out′ base (p / 2)
+          → out′ ≡ laid (multiplication g s (take (2 ^ g .dims) out) (take j base) 512 .coefs) out → Left s power x out₀ base₀ (squareOf s) out′ base (p / 2)
       odd g j h e f d q =
           let l = grown-length (grown s) s (t .r) (t .b) refl (omega arith) h (t .long) (t .wide) in
           taken times (rw (eq-eqb (p % 2) 1 d)) l
           (over-again times (t .r) out₀ out out′ (l ∙ sym (t .long)) (t .at-out) (q ∙ (rw (front g e, bottom t j f, e))))
 
-      even : (p % 2 ≡ 1 → ⊥) → out′ ≡ out → Left s power x out₀ base₀ (squared s) out′ base (p / 2)
+      even : (p % 2 ≡ 1 → ⊥) → out′ ≡ out → Left s power x out₀ base₀ (squareOf s) out′ base (p / 2)
       even d q = taken (t .r) (rw (ne-eqb (p % 2) 1 d)) (t .long) (q ∙ t .at-out)
 
   -- ---- the base
 
-  module _ {p : ℕ} (m : Left s power x out₀ base₀ (squared s) out base p) where
+  module _ {p : ℕ} (m : Left s power x out₀ base₀ (squareOf s) out base p) where
     -- It is squared for the next digit.
-    goes-on : {base′ : List Float} (j : ℕ) → j ≡ 2 ^ s .dims → base′ ≡ laid (squared s (take j base)) base → Left s power x out₀ base₀ kept out base′ p
+    goes-on : {base′ : List Float} (j : ℕ) → j ≡ 2 ^ s .dims → base′ ≡ laid (squareOf s (take j base)) base → Left s power x out₀ base₀ kept out base′ p
     goes-on {base′} j e q =
         let l = product-length All (s .flavor) (s .dims) binary64 (m .b) (m .b) in
         record {
           k = m .k;
           r = m .r;
-          b = squared s (m .b);
+          b = squareOf s (m .b);
           few = m .few;
           long = m .long;
           wide = l;
           at-out = m .at-out;
-          at-base = over-again (squared s (m .b)) (m .b) base₀ base base′ (l ∙ sym (m .wide)) (m .at-base) (q ∙ ap (λ (ys : List Float). laid (squared s ys) base) (bottom m j e));
+          at-base = over-again (squareOf s (m .b)) (m .b) base₀ base base′ (l ∙ sym (m .wide)) (m .at-base) (q ∙ ap (λ (ys : List Float). laid (squareOf s ys) base) (bottom m j e));
           same = m .same;
         }
 
@@ -143,7 +143,7 @@ module _ {s : Shape} {power : ℕ} {x out₀ base₀ out base : List Float} wher
           wide = m .wide;
           at-out = m .at-out;
           at-base = m .at-base;
-          same = none (m .b) ∙ sym (none (squared s (m .b))) ∙ m .same;
+          same = none (m .b) ∙ sym (none (squareOf s (m .b))) ∙ m .same;
         }
 
 -- ---- the start and the end
@@ -297,7 +297,7 @@ mul-front-requires c κs =
     ((grown-is (b l), omega (arith, d, p .0 .0)), (length-take-le _ (l .loop .base) e ∙ whole l, room d (p .1 .1) (out-kept l)))
 
 -- After the test of a digit.
-digit : (c : tie.Joined1 Inv-loop μ-loop) → let l = c .before .before in Left (s (b l)) (a (b l) .args .power) (x (b l)) (out₁ (b l)) (base₁ (b l)) (squared (s (b l))) (c .if1 .out) (l .loop .base) (l .loop .p / 2)
+digit : (c : tie.Joined1 Inv-loop μ-loop) → let l = c .before .before in Left (s (b l)) (a (b l) .args .power) (x (b l)) (out₁ (b l)) (base₁ (b l)) (squareOf (s (b l))) (c .if1 .out) (l .loop .base) (l .loop .p / 2)
 digit c =
     let l = c .before .before in
     ⊎-elim

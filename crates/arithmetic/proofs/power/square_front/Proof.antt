@@ -14,16 +14,16 @@ use Rattle.masks.specs.Shape.{setDims}
 use Rattle.masks.proofs.OrderLaws.{blades-le}
 use Rattle.product.specs.declared.mode.Mode.the-variants.{All}
 use Rattle.product.proofs.PairwiseLaws.{product-length}
-use Rattle.arithmetic.specs.Inverse.{squared}
+use Rattle.arithmetic.specs.Inverse.{squareOf}
 use Rattle.arithmetic.proofs.PowerLaws.{copied-on}
 use Rattle.arithmetic.proofs.power.square_front.Statement.{statement}
 use Rattle.arithmetic.proofs.power.square_front.Tie as tie
 
 replaced : (s : Shape) (n k : ℕ) (buf held out after : List Float) (r : Answer) → s .dims ≤ 9 → k ≡ 2 ^ s .dims → n ≡ k → n ≤ length out
-    → held ≡ laid (squared s (take n out)) buf → Gives (setDims s (s .dims) (take n held) (length out)) r out after → after ≡ laid (squared s (take k out)) out
+    → held ≡ laid (squareOf s (take n out)) buf → Gives (setDims s (s .dims) (take n held) (length out)) r out after → after ≡ laid (squareOf s (take k out)) out
 replaced s n k buf held out after r h c e m q g =
-    copied-on s n (squared s (take n out)) buf held out after r h (e ∙ c) (product-length All (s .flavor) (s .dims) binary64 _ _) (omega arith) q g
-    ∙ ap (λ (j : ℕ). laid (squared s (take j out)) out) e
+    copied-on s n (squareOf s (take n out)) buf held out after r h (e ∙ c) (product-length All (s .flavor) (s .dims) binary64 _ _) (omega arith) q g
+    ∙ ap (λ (j : ℕ). laid (squareOf s (take j out)) out) e
 
 sub-put-square : tie.Need-sub-put-square
 sub-put-square c = search needs

@@ -39,7 +39,7 @@ mul-requires c κs = search needs
 same-length : tie.Need-same-length
 same-length c = search needs
 
--- The part that is lent is the inverse.
+-- The part that is passed on is the inverse.
 lent : (c : tie.After-put-inverse)
     → let a = c .before .before .before .before .before .args in
     take (length (a .b .now) - 0) (c .put-inverse .last .1 .1 .0) ≡ inverseOf (a .right) (a .b .now)

@@ -69,7 +69,7 @@ module _ (d : ℕ) (xs : List Float) where
   turned-length true = inv-reversed-length d (take (2 ^ d) xs)
   turned-length false = reversed-length d (take (2 ^ d) xs)
 
-  -- The grade of the mask at a place tells whether its number is negated.
+  -- The grade of the mask at a place says whether its number is negated.
   turned-at : (rest : Bool) (k : ℕ) → k < 2 ^ d → getD (turned rest d xs) k nan ≡ negatedIf (turns rest (ones (maskAt d k))) (getD xs k nan)
   turned-at rest k h = go rest ∙ ap (negatedIf (turns rest (ones (maskAt d k)))) (getD-take (2 ^ d) xs k nan h)
     where
