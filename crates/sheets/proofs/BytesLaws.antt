@@ -1,12 +1,12 @@
 -- Laws of numbers as bytes, and of sections. A number is read back by its digits to the base 256, and items by the seams between them. Assumes nothing.
-use mathlib.Core.Path.{_≡_, refl, sym, ap, _∙_}
+use mathlib.Core.Path.{_≡_, refl, sym, ap, ap₂, _∙_}
 use mathlib.Core.List.{List, [], _∷_, _++_, map, append-assoc, append-nil}
-use Prim.Native.Nat.{ℕ, zero, suc, _+_, _*_, _/_, _%_, _^_, _<_, suc-le-suc}
+use Prim.Native.Nat.{ℕ, zero, suc, _+_, _*_, _/_, _%_, _^_, _≤_, _<_, suc-le-suc}
 use native.Mathlib.Nat.{le-of-suc-le-suc, not-suc-le-zero, mul-zero, mul-suc, add-comm, zero-lt-suc, pow-suc, le-of-lt}
 use native.Mathlib.Numerals.{add-one}
 use native.Mathlib.Omega.{arith}
-use lib.ListN.{length, getD, take, drop, length-append}
-use lib.Seq.{sets, drop-cons, getD-drop, drop-drop, take-add, take-at, drop-at, take-suc, length-take-le}
+use lib.ListN.{length, getD, take, drop, length-append, length-drop}
+use lib.Seq.{sets, drop-cons, getD-drop, drop-drop, take-add, take-at, drop-at, take-suc, take-take, length-take-le}
 use Rattle.masks.proofs.ListLaws.{getD-map, sets-append}
 use Rattle.sheets.specs.Bytes.{littleEndian, fromLittleEndian, allBytes, section, parts, countIn, itemsIn, afterSection}
 
@@ -122,6 +122,18 @@ unfolding parts
 getD-parts k zero b i h = absurd (not-suc-le-zero h)
 getD-parts k (suc n) b zero h = rw mul-zero
 getD-parts k (suc n) b (suc i) h = getD-parts k n (drop k b) i (le-of-suc-le-suc h) ∙ ap (take k) (drop-part k i b)
+
+-- parts of the first k * n bytes are those of all
+pub parts-take : (k n : ℕ) (b : List ℕ) → k * n ≤ length b → parts k n (take (k * n) b) ≡ parts k n b
+unfolding parts
+parts-take k zero b h = refl
+parts-take k (suc n) b h =
+    let e = mul-suc k n in
+    let l : k ≤ length b = omega arith in
+    let m : k * suc n ≡ k + k * n = omega arith in
+    let first : take k (take (k * suc n) b) ≡ take k b = take-take k (k * suc n) b (omega arith) in
+    let rest : drop k (take (k * suc n) b) ≡ take (k * n) (drop k b) = ap (λ (j : ℕ). drop k (take j b)) m ∙ ap (drop k) (take-add k (k * n) b) ∙ drop-at (take k b) (take (k * n) (drop k b)) k (length-take-le k b l) in
+    ap₂ _∷_ first (ap (parts k n) rest ∙ parts-take k n (drop k b) (omega (arith, length-drop k b)))
 
 -- what is done to a part, by its index: `at` is where the first part stands
 pub getD-map-parts {ℓ} : {A : Type ℓ} (g : List ℕ → A) (d : A) (k n at : ℕ) (b : List ℕ) (i : ℕ) → i < n → getD (map g (parts k n (drop at b))) i d ≡ g (take k (drop (at + k * i) b))

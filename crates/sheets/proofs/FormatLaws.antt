@@ -86,17 +86,17 @@ dims-at i [] h e = absurd (not-suc-le-zero h)
 dims-at zero (s ∷ ss) h e = ltb-false 9 (s .dims) (neither (ltb 9 (s .dims)) (anyAboveNine ss) e .0)
 dims-at (suc i) (s ∷ ss) h e = dims-at i ss (le-of-suc-le-suc h) (neither (ltb 9 (s .dims)) (anyAboveNine ss) e .1)
 
-pub bladesOf-append : (xs ys : List Shape) → bladeTotal (xs ++ ys) ≡ bladeTotal xs + bladeTotal ys
+pub bladeTotal-append : (xs ys : List Shape) → bladeTotal (xs ++ ys) ≡ bladeTotal xs + bladeTotal ys
 unfolding bladeTotal
-bladesOf-append [] ys = omega arith
-bladesOf-append (s ∷ xs) ys = omega (arith, bladesOf-append xs ys)
+bladeTotal-append [] ys = omega arith
+bladeTotal-append (s ∷ xs) ys = omega (arith, bladeTotal-append xs ys)
 
-pub bladesOf-le : (ss : List Shape) → anyAboveNine ss ≡ false → bladeTotal ss ≤ 512 * length ss
+pub bladeTotal-le : (ss : List Shape) → anyAboveNine ss ≡ false → bladeTotal ss ≤ 512 * length ss
 unfolding anyAboveNine bladeTotal
-bladesOf-le [] e = omega arith
-bladesOf-le (s ∷ ss) e =
+bladeTotal-le [] e = omega arith
+bladeTotal-le (s ∷ ss) e =
     let p = neither (ltb 9 (s .dims)) (anyAboveNine ss) e in
-    omega (arith, bladesOf-le ss (p .1), blades-le (s .dims) (ltb-false 9 (s .dims) (p .0)))
+    omega (arith, bladeTotal-le ss (p .1), blades-le (s .dims) (ltb-false 9 (s .dims) (p .0)))
 
 -- what holds of a sheet within its limits
 pub record Within (n : ℕ) (ss : List Shape) (m : ℕ) : Type 0 where

@@ -1,15 +1,28 @@
--- In the lists of tests of the writer and of the value at an index the numbers rise, so that the lowest that applies is given (`refused-lowest` of masks). The reader gives 9 before 3. Assumes nothing.
-use mathlib.Core.List.{List, [], _∷_, _++_}
+-- In the list of tests of each call on sheets the numbers rise, so that the lowest that applies is given (`refused-lowest` of masks); the reader gives 9 before 3. Assumes nothing.
+use mathlib.Core.Path.{_≡_, refl}
+use mathlib.Core.Bool.{false}
+use mathlib.Core.List.{List}
 use Prim.Native.Nat.{ℕ}
 use lib.Dec.{T}
 use Rattle.masks.specs.declared.shape.Shape.{Shape}
-use Rattle.masks.specs.Outcome.{noRoom}
+use Rattle.masks.specs.Outcome.{refusal}
 use Rattle.masks.proofs.Lowest.{rises}
-use Rattle.sheets.specs.Format.{limits}
+use Rattle.sheets.specs.declared.shapes.Shapes.{Shapes}
+use Rattle.sheets.specs.Read.{isSheetBytes, readTests}
+use Rattle.sheets.specs.Write.{writeTests}
 use Rattle.sheets.specs.Values.{valueTests}
+use Rattle.sheets.specs.Patterns.{convertedTests}
 
-pub write-rises : (n : ℕ) (ss : List Shape) (m room needed : ℕ) → T (rises 1 (limits n ss m ++ noRoom room needed ∷ []))
-write-rises n ss m room needed = tt
+pub write-rises : (s : Shapes) (xs : List ℕ) (room : ℕ) → T (rises 1 (writeTests s xs room))
+write-rises s xs room = tt
 
 pub value-rises : (ss : List Shape) (i : ℕ) → T (rises 1 (valueTests ss i))
 value-rises ss i = tt
+
+pub converted-rises : {A : Type 0} (xs : List A) (room : ℕ) → T (rises 1 (convertedTests xs room))
+converted-rises xs room = tt
+
+-- Bytes that are no sheet's are refused with 9, whatever the room.
+pub read-nine-first : (b : List ℕ) (room : ℕ) → isSheetBytes b ≡ false → refusal (readTests b room) ≡ 9
+unfolding refusal
+read-nine-first b room e = rw e

@@ -1,13 +1,19 @@
--- Patterns to numbers and back, by the library's laws of a float's bits, and for lists item by item. Assumes nothing.
-use mathlib.Core.Path.{_≡_, refl}
+-- Patterns to numbers and back, by the library's laws of a float's bits, and for lists item by item; and what the loop that converts a list has written. Assumes nothing.
+use mathlib.Core.Path.{_≡_, refl, sym, ap, _∙_}
 use mathlib.Core.Bool.{not}
 use mathlib.Core.List.{List, [], _∷_, map}
-use Prim.Native.Nat.{ℕ, suc, _^_, _<_, suc-le-suc}
+use Prim.Native.Nat.{ℕ, suc, _+_, _^_, _≤_, _<_, suc-le-suc}
 use native.Mathlib.Nat.{zero-lt-suc}
+use native.Mathlib.Omega.{arith}
+use borrow.Author.Tests.{lt-ltb, le-ltb}
 use lib.Dec.{T}
 use lib.Ieee.{Float, nan, inf, fin, binary64, fits, isNan, nanBits, ofBits, toBits}
 use lib.Ieee.Bits.{ofBits-toBits, toBits-ofBits, nanBits-is}
-use lib.ListN.{getD, length}
+use lib.ListN.{length, getD, set, length-map}
+use Rattle.masks.specs.Outcome.{refusal, Writes}
+use Rattle.masks.proofs.ListLaws.{getD-map, front, front-length, front-step, front-all}
+use Rattle.masks.proofs.RefusalLaws.{writes-refused, writes-done}
+use Rattle.sheets.specs.Patterns.{converted}
 
 -- a pattern that is no NaN's comes back
 pub pattern-back : (x : ℕ) → x < 2 ^ 64 → T (not (nanBits binary64 x)) → toBits binary64 (ofBits binary64 x) ≡ x
@@ -43,3 +49,28 @@ patterns-back xs h = map-back (ofBits binary64) (toBits binary64) 0 xs (λ i l. 
 
 pub numbers-back : (xs : List Float) → ((i : ℕ) → i < length xs → T (fits binary64 (getD xs i nan))) → map (ofBits binary64) (map (toBits binary64) xs) ≡ xs
 numbers-back xs h = map-back (toBits binary64) (ofBits binary64) nan xs (λ i l. number-back (getD xs i nan) (h i l))
+
+-- ---- a loop that converts each item of a list by f
+
+module _ {A B : Type 0} (f : A → B) (xs : List A) (out : List B) where
+  -- the output once the first i are written
+  abbrev pub convertedTo : ℕ → List B
+  convertedTo i = front i (map f xs) out
+
+  pub converted-refused : length out < length xs → Writes (converted f xs (length out)) (record { number = 3; count = 0 }) out out
+  unfolding converted refusal
+  converted-refused h = writes-refused _ 3 _ _ out (rw (lt-ltb _ _ h)) (λ q. omega arith) refl
+
+  module _ (room : length xs ≤ length out) (i : ℕ) (now : List B) (e : now ≡ convertedTo i) where
+    pub converted-length : i ≤ length xs → length now ≡ length out
+    converted-length h = ap length e ∙ front-length i (map f xs) out (omega (arith, length-map xs f)) (omega arith)
+
+    -- the next one written
+    pub converted-step : (d : A) (y : B) → i < length xs → y ≡ f (getD xs i d) → set now i y ≡ convertedTo (i + 1)
+    converted-step d y h q =
+        rw e (front-step i (map f xs) y out y (q ∙ sym (getD-map f xs i d y h)) (omega (arith, length-map xs f)) (omega arith))
+
+    -- all of them written
+    pub converted-done : i ≡ length xs → Writes (converted f xs (length out)) (record { number = 0; count = length xs }) out now
+    unfolding converted refusal
+    converted-done h = writes-done _ 0 _ _ out now (rw (le-ltb _ _ room)) refl (rw (length-map xs f)) (e ∙ front-all i (map f xs) out (omega (arith, length-map xs f)))

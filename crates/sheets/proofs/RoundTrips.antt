@@ -10,7 +10,7 @@ use lib.ListN.{length, getD, take, drop, length-take}
 use borrow.Author.Tests.{le-ltb, eq-eqb, not-false}
 use Rattle.masks.specs.declared.flavor.Flavor.the-variants.{Vanilla}
 use Rattle.masks.specs.declared.shape.Shape.{Shape}
-use Rattle.masks.specs.Outcome.{refusal, noRoom, unless, shapeOf, laid, Written, refusedList, listed, Writes}
+use Rattle.masks.specs.Outcome.{refusal, unless, shapeOf, laid, Written, refusedList, listed, Writes}
 use Rattle.masks.specs.declared.outcome.Count.{Count}
 use Rattle.sheets.specs.declared.read.SheetRead.{SheetRead}
 use Rattle.masks.specs.Text.{same}
@@ -18,16 +18,17 @@ use Rattle.masks.proofs.ListLaws.{split, take-laid}
 use Rattle.masks.proofs.OutcomeLaws.{past, unless-done, unless-number}
 use Rattle.sheets.specs.declared.shapes.Shapes.{Shapes}
 use Rattle.sheets.specs.Bytes.{fromLittleEndian, section, parts, itemsIn, afterSection}
-use Rattle.sheets.specs.Format.{Sheet, shapeBytes, patternBytes, sheetBytes, bladeTotal, limits}
-use Rattle.sheets.specs.Shapes.{blankShapes, shapesOf, listedShapes}
-use Rattle.sheets.specs.Read.{shapeFrom, said, isSheet, isSheetBytes, malformed, ReadOutcome, readSheet, aSheet, refusedSheet, Reads}
-use Rattle.sheets.specs.Write.{sheetOf, writeSheet}
+use Rattle.sheets.specs.Format.{Sheet, shapeBytes, patternBytes, sheetBytes, bladeTotal}
+use Rattle.sheets.specs.Shapes.{shapesOf, listedShapes}
+use Rattle.sheets.specs.Read.{shapeFrom, said, isSheet, isSheetBytes, malformed, ReadOutcome, readTests, readSheet, aSheet, refusedSheet, Reads}
+use Rattle.sheets.specs.Write.{sheetOf, writeTests, writeSheet}
 use Rattle.sheets.specs.inner.Checks.{checked}
 use Rattle.sheets.proofs.BytesLaws.{AreBytes, littleEndian-length, number-littleEndian, number-lt, take-bytes, drop-bytes, items-section, after-section}
 use Rattle.sheets.proofs.FormatLaws.{shapeBytes-length, shapeFrom-shapeBytes, same-refl, sheet-within, within-sheet}
 use Rattle.sheets.proofs.PatternsLaws.{map-back}
-use Rattle.sheets.proofs.ReadingLaws.{shapesSaid, patternsSaid, said-sheet, sheet-items, accepts, checked-true, read-malformed, read-no-room, read-done}
-use Rattle.sheets.proofs.WritingLaws.{listed-length, room-same, writable}
+use Rattle.sheets.proofs.ReadLaws.{shapesSaid, patternsSaid, said-sheet, sheet-items, accepts, checked-true, read-malformed, read-no-room, read-done}
+use Rattle.sheets.proofs.ShapesLaws.{listed-length, listed-shapesOf}
+use Rattle.sheets.proofs.WriteLaws.{room-same, writable}
 
 -- every pattern has 64 bits
 abbrev pub ArePatterns : List ℕ → Type 0
@@ -43,7 +44,7 @@ number-same q e = sym (ap (λ (o : ReadOutcome). o .number) q) ∙ e
 taken : (b : List ℕ) (room : ℕ) → readSheet b room .number ≡ 0 → (isSheetBytes b ≡ true) × (readSheet b room ≡ aSheet (said b))
 unfolding readSheet
 taken b room e =
-    let k = sym (unless-number (λ (o : ReadOutcome). o .number) refusedSheet (refusal (malformed b ∷ noRoom room (length (said b .patterns)) ∷ [])) (aSheet (said b)) refl refl) ∙ e in
+    let k = sym (unless-number (λ (o : ReadOutcome). o .number) refusedSheet (refusal (readTests b room)) (aSheet (said b)) refl refl) ∙ e in
     (not-false _ (past (malformed b) _ (λ q. omega arith) k .0), unless-done refusedSheet _ 0 _ (sym k) refl)
 
 -- Sound: what is read is a sheet within its limits, and the bytes are its bytes.
@@ -128,15 +129,11 @@ three-short b room e =
 
 -- ---- written and read
 
--- a record of shapes made of a list lists it
-pub listed-shapesOf : (ss : List Shape) → listedShapes (shapesOf ss) ≡ ss
-listed-shapesOf ss = take-laid (length ss) ss blankShapes refl
-
 -- Read of what was written gives back shapes and patterns.
 pub read-of-written : (s : Shapes) (xs : List ℕ) (room room′ : ℕ) → length (s .held) ≡ 64 → ArePatterns xs → writeSheet s xs room .number ≡ 0 → length xs ≤ room′ → readSheet (writeSheet s xs room .items) room′ ≡ aSheet (sheetOf s xs)
 unfolding writeSheet
 read-of-written s xs room room′ e h w r =
-    let k = sym (unless-number (λ (o : Written ℕ). o .number) refusedList (refusal (limits (s .count) (listedShapes s) (length xs) ++ (noRoom room (length (sheetBytes (sheetOf s xs))) ∷ []))) (listed (sheetBytes (sheetOf s xs))) refl refl) ∙ w in
+    let k = sym (unless-number (λ (o : Written ℕ). o .number) refusedList (refusal (writeTests s xs room)) (listed (sheetBytes (sheetOf s xs))) refl refl) ∙ w in
     let g = writable s xs room (room-same s xs room e ∙ k) .within in
     let l = listed-length s e (g .few) in
     let i = within-sheet (sheetOf s xs) (record { small = g .small; few = omega (arith, g .few); limited = g .limited; matched = g .matched }) in
@@ -147,7 +144,7 @@ writes : (s : Sheet) (room : ℕ) → isSheet s ≡ true → length (sheetBytes 
 unfolding writeSheet refusal unless
 writes s room e r =
     let w = sheet-within s e in
-    rw (listed-shapesOf (s .shapes), w .small, le-ltb 64 (length (s .shapes)) (w .few), le-ltb 4096 (length (s .patterns)) (w .limited), eq-eqb (length (s .patterns)) (bladeTotal (s .shapes)) (w .matched), le-ltb room (length (sheetBytes s)) r)
+    rw (listed-shapesOf (s .shapes) (w .few), w .small, le-ltb 64 (length (s .shapes)) (w .few), le-ltb 4096 (length (s .patterns)) (w .limited), eq-eqb (length (s .patterns)) (bladeTotal (s .shapes)) (w .matched), le-ltb room (length (sheetBytes s)) r)
 
 -- Written of what was read is the same bytes, a NaN's bits included.
 pub written-of-read : (b : List ℕ) (room room′ : ℕ) → readSheet b room .number ≡ 0 → length b ≤ room′ → writeSheet (shapesOf (readSheet b room .sheet .shapes)) (readSheet b room .sheet .patterns) room′ ≡ listed b

@@ -45,10 +45,14 @@ unfoldable pub bladeTotal : List Shape → ℕ
 bladeTotal [] = 0
 bladeTotal (s ∷ ss) = 2 ^ s .dims + bladeTotal ss
 
+-- 1: A dimension is above 9.
+abbrev pub aboveNine : List Shape → Test
+aboveNine ss = record { fails = anyAboveNine ss; number = 1 }
+
 -- The tests of a sheet of n shapes and m coefficients. 1: A dimension is above 9. 2: There are more than 64 shapes or 4,096 coefficients, or there are not as many coefficients as the sum of the 2^d.
 abbrev pub limits : ℕ → List Shape → ℕ → List Test
 limits n ss m =
-    record { fails = anyAboveNine ss; number = 1 } ∷
+    aboveNine ss ∷
     record { fails = ltb 64 n; number = 2 } ∷
     record { fails = ltb 4096 m; number = 2 } ∷
     record { fails = not (eqb m (bladeTotal ss)); number = 2 } ∷

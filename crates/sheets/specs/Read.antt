@@ -2,7 +2,7 @@
 use mathlib.Core.Path.{_≡_}
 use mathlib.Core.Bool.{Bool, not, _&&_}
 use mathlib.Core.List.{List, [], _∷_, map}
-use Prim.Native.Nat.{ℕ, zero, suc}
+use Prim.Native.Nat.{ℕ, zero, suc, _/_}
 use lib.Dec.{eqb}
 use lib.ListN.{length, getD}
 use Rattle.masks.specs.declared.flavor.Flavor.{Flavor}
@@ -11,7 +11,7 @@ use Rattle.masks.specs.declared.shape.Shape.{Shape}
 use Rattle.masks.specs.Outcome.{Test, refusal, noRoom, unless, shapeOf, laid}
 use Rattle.masks.specs.Text.{same}
 use Rattle.sheets.specs.declared.read.SheetRead.{SheetRead}
-use Rattle.sheets.specs.Bytes.{fromLittleEndian, itemsIn, afterSection}
+use Rattle.sheets.specs.Bytes.{fromLittleEndian, parts, itemsIn, afterSection}
 use Rattle.sheets.specs.Format.{Sheet, sheetBytes, limits}
 use Rattle.sheets.specs.Shapes.{shapesOf}
 
@@ -23,8 +23,13 @@ flavorFrom zero p n z = Vanilla
 flavorFrom (suc zero) p n z = Projective
 flavorFrom (suc (suc k)) p n z = Cl p n z
 
+-- The shape that five bytes say.
 unfoldable pub shapeFrom : List ℕ → Shape
 shapeFrom c = shapeOf (getD c 0 0) (flavorFrom (getD c 1 0) (getD c 2 0) (getD c 3 0) (getD c 4 0))
+
+-- The shapes that bytes say, five bytes each.
+unfoldable pub saidShapes : List ℕ → List Shape
+saidShapes b = map shapeFrom (parts 5 (length b / 5) b)
 
 -- `said` is the sheet that bytes would be, by their counts.
 unfoldable pub said : List ℕ → Sheet
@@ -56,8 +61,11 @@ abbrev pub aSheet : Sheet → ReadOutcome
 aSheet s = record { number = 0; sheet = s }
 
 -- 9, then 3.
+abbrev pub readTests : List ℕ → ℕ → List Test
+readTests b room = malformed b ∷ noRoom room (length (said b .patterns)) ∷ []
+
 unfoldable pub readSheet : List ℕ → ℕ → ReadOutcome
-readSheet b room = unless refusedSheet (refusal (malformed b ∷ noRoom room (length (said b .patterns)) ∷ [])) (aSheet (said b))
+readSheet b room = unless refusedSheet (refusal (readTests b room)) (aSheet (said b))
 
 -- ---- as the answer
 

@@ -10,9 +10,10 @@ use Rattle.sheets.specs.declared.shapes.Shapes.{Shapes}
 abbrev pub listedShapes : Shapes → List Shape
 listedShapes s = take (s .count) (s .held)
 
--- A record made of a list holds 64 shapes, shape 0 Vanilla past those that are listed.
+-- Shape 0 Vanilla in all of the 64 places.
 unfoldable pub blankShapes : List Shape
 blankShapes = replicate 64 (shapeOf 0 Vanilla)
 
+-- A record made of a list counts all of it and holds its first 64 shapes, shape 0 Vanilla past those.
 abbrev pub shapesOf : List Shape → Shapes
-shapesOf ss = record { count = length ss; held = laid ss blankShapes }
+shapesOf ss = record { count = length ss; held = laid (take 64 ss) blankShapes }

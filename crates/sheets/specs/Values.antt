@@ -7,8 +7,8 @@ use Rattle.masks.specs.declared.flavor.Flavor.the-variants.{Vanilla}
 use Rattle.masks.specs.declared.shape.Shape.{Shape}
 use Rattle.masks.specs.Outcome.{Test, refusal, unless, shapeOf}
 use Rattle.sheets.specs.declared.shapes.Shapes.{Shapes}
-use Rattle.sheets.specs.declared.shapes.Placed.{Placed}
-use Rattle.sheets.specs.Format.{anyAboveNine, bladeTotal}
+use Rattle.sheets.specs.declared.values.Placed.{Placed}
+use Rattle.sheets.specs.Format.{aboveNine, bladeTotal}
 use Rattle.sheets.specs.Shapes.{listedShapes}
 
 -- Its patterns start after those of the shapes before it.
@@ -17,13 +17,15 @@ startOf ss i = bladeTotal (take i ss)
 
 -- 1: A dimension is above 9. 2: So many shapes are not listed.
 abbrev pub valueTests : List Shape → ℕ → List Test
-valueTests ss i = record { fails = anyAboveNine ss; number = 1 } ∷ record { fails = leb (length ss) i; number = 2 } ∷ []
+valueTests ss i = aboveNine ss ∷ record { fails = leb (length ss) i; number = 2 } ∷ []
 
 -- A refusal has its number, shape 0 Vanilla and 0.
 abbrev pub refusedPlace : ℕ → Placed
 refusedPlace k = record { number = k; shape = shapeOf 0 Vanilla; start = 0 }
 
+-- The shape at an index, and where its patterns start.
+abbrev pub placedAt : List Shape → ℕ → Placed
+placedAt ss i = record { number = 0; shape = getD ss i (shapeOf 0 Vanilla); start = startOf ss i }
+
 unfoldable pub valueAt : Shapes → ℕ → Placed
-valueAt s i =
-    unless refusedPlace (refusal (valueTests (listedShapes s) i))
-    (record { number = 0; shape = getD (listedShapes s) i (shapeOf 0 Vanilla); start = startOf (listedShapes s) i })
+valueAt s i = unless refusedPlace (refusal (valueTests (listedShapes s) i)) (placedAt (listedShapes s) i)

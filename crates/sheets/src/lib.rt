@@ -3,4 +3,5 @@ mod bytes;
 pub mod patterns;
 pub mod read;
 pub mod shapes;
+pub mod values;
 pub mod write;

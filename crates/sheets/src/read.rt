@@ -3,8 +3,9 @@ use super::bytes::number_at;
 use super::shapes::MAX_COEFFICIENTS;
 use super::shapes::MAX_SHAPES;
 use super::shapes::Shapes;
-use super::shapes::blades_of;
+use super::shapes::blade_total;
 use super::shapes::blank_shapes;
+use super::shapes::listed_count;
 use masks::flavor::Flavor;
 use masks::outcome::DONE;
 use masks::outcome::MALFORMED;
@@ -19,18 +20,18 @@ ghost use lib.ListN.{length, take, drop};
 ghost use Rattle.masks.specs.Outcome.{laid};
 ghost use Rattle.sheets.specs.Bytes.{fromLittleEndian, parts};
 ghost use Rattle.sheets.specs.Shapes.{shapesOf};
-ghost use Rattle.sheets.specs.Read.{flavorFrom, shapeFrom, refusedSheet, readOf, Reads, readSheet};
+ghost use Rattle.sheets.specs.Read.{flavorFrom, shapeFrom, saidShapes, refusedSheet, readOf, Reads, readSheet};
 ghost use Rattle.sheets.specs.inner.Checks.{isShape, areShapes, checked};
 
-// A sheet: its patterns are in the lent output.
+// A sheet: its patterns are in the caller's output.
 pub struct SheetRead {
     pub number: u8,
     pub shapes: Shapes,
     pub count: usize,
 }
 
-// Kind 0 is Vanilla, 1 Projective, and any other is taken for Cl.
-fn flavor_from(kind: u8, p: u8, n: u8, z: u8) -> Flavor
+// The flavor that four numbers say: kind 0 is Vanilla, 1 Projective, and any other is taken for Cl.
+pub fn flavor_from(kind: u8, p: u8, n: u8, z: u8) -> Flavor
     ensures { λ r. ⌜ r ≡ flavorFrom kind p n z ⌝ }
 {
     match kind {
@@ -81,18 +82,19 @@ fn are_shapes(bytes: &[u8], n: usize) -> bool
     true
 }
 
-// The n shapes that the bytes say, the first being at byte 2.
-fn shapes_from(bytes: &[u8], n: usize) -> Shapes
-    requires { ⌜ (n ≤ 64) × (2 + 5 * n ≤ length (now bytes)) ⌝ }
-    ensures { λ r. ⌜ r ≡ shapesOf (map shapeFrom (parts 5 n (drop 2 (now (bytes .entry))))) ⌝ }
+// The shapes that bytes say, five bytes each: all are counted, and the first 64 held.
+pub fn shapes_from(bytes: &[u8]) -> Shapes
+    ensures { λ r. ⌜ r ≡ shapesOf (saidShapes (now (bytes .entry))) ⌝ }
 {
+    let count = bytes.len() / 5;
+    let n = listed_count(count);
     let mut held = blank_shapes();
     let mut i: usize = 0;
     while i < n {
-        held[i] = shape_at(bytes, 2 + 5 * i);
+        held[i] = shape_at(bytes, 5 * i);
         i += 1;
     }
-    Shapes { count: n, held }
+    Shapes { count, held }
 }
 
 fn refused_sheet(number: u8) -> SheetRead
@@ -125,8 +127,8 @@ fn check(bytes: &[u8]) -> SheetRead
     if !are_shapes(bytes, n) {
         return refused_sheet(MALFORMED);
     }
-    let shapes = shapes_from(bytes, n);
-    let count = blades_of(shapes, n);
+    let shapes = shapes_from(&bytes[2..at]);
+    let count = blade_total(shapes, n);
     if number_at(bytes, at, 4) != count as u64 {
         return refused_sheet(MALFORMED);
     }

@@ -1,10 +1,7 @@
-// The shapes of a sheet, and where the patterns of each begin.
+// The record in which a sheet's shapes travel.
 use masks::flavor::Flavor;
 use masks::order::blade_count;
-use masks::outcome::DONE;
 use masks::outcome::MAX_DIMS;
-use masks::outcome::TOO_MANY_DIMS;
-use masks::outcome::WRONG_COUNT;
 use masks::outcome::shape_of;
 use masks::shape::Shape;
 ghost use mathlib.Core.Path.{_≡_};
@@ -13,7 +10,6 @@ ghost use Prim.Native.Nat.{_≤_, min};
 ghost use lib.ListN.{take};
 ghost use Rattle.sheets.specs.Format.{anyAboveNine, bladeTotal};
 ghost use Rattle.sheets.specs.Shapes.{blankShapes};
-ghost use Rattle.sheets.specs.Values.{refusedPlace, valueAt};
 
 // The most shapes, and the most coefficients, that a sheet has.
 pub const MAX_SHAPES: usize = 64;
@@ -24,13 +20,6 @@ pub const MAX_COEFFICIENTS: usize = 4096;
 pub struct Shapes {
     pub count: usize,
     pub held: [Shape; 64],
-}
-
-// Where a value of a sheet is: its shape, and the place at which its patterns start.
-pub struct Placed {
-    pub number: u8,
-    pub shape: Shape,
-    pub start: usize,
 }
 
 // Shape 0 Vanilla in every place.
@@ -69,7 +58,7 @@ pub(crate) fn any_above_nine(shapes: Shapes, n: usize) -> bool
 }
 
 // How many coefficients the first n shapes have.
-pub(crate) fn blades_of(shapes: Shapes, n: usize) -> usize
+pub(crate) fn blade_total(shapes: Shapes, n: usize) -> usize
     requires { ⌜ (n ≤ 64) × (anyAboveNine (take n (shapes .held)) ≡ false) ⌝ }
     ensures { λ r. ⌜ r ≡ bladeTotal (take n (shapes .held)) ⌝ }
 {
@@ -82,35 +71,4 @@ pub(crate) fn blades_of(shapes: Shapes, n: usize) -> usize
         i += 1;
     }
     sum
-}
-
-fn refused_place(number: u8) -> Placed
-    ensures { λ r. ⌜ r ≡ refusedPlace number ⌝ }
-{
-    let shape = shape_of(0, Flavor::Vanilla);
-    Placed {
-        number,
-        shape,
-        start: 0,
-    }
-}
-
-// The value at an index: its shape, and where its patterns start.
-pub fn value_at(shapes: Shapes, index: usize) -> Placed
-    ensures { λ r. ⌜ r ≡ valueAt shapes index ⌝ }
-{
-    let n = listed_count(shapes.count);
-    if any_above_nine(shapes, n) {
-        return refused_place(TOO_MANY_DIMS);
-    }
-    if n <= index {
-        return refused_place(WRONG_COUNT);
-    }
-    let start = blades_of(shapes, index);
-    let shape = shapes.held[index];
-    Placed {
-        number: DONE,
-        shape,
-        start,
-    }
 }

@@ -4,7 +4,7 @@ use super::shapes::MAX_COEFFICIENTS;
 use super::shapes::MAX_SHAPES;
 use super::shapes::Shapes;
 use super::shapes::any_above_nine;
-use super::shapes::blades_of;
+use super::shapes::blade_total;
 use super::shapes::listed_count;
 use masks::flavor::Flavor;
 use masks::outcome::Count;
@@ -47,7 +47,7 @@ fn write_refusal(shapes: Shapes, patterns: usize, room: usize) -> u8
     if MAX_COEFFICIENTS < patterns {
         return WRONG_COUNT;
     }
-    if patterns != blades_of(shapes, n) {
+    if patterns != blade_total(shapes, n) {
         return WRONG_COUNT;
     }
     if room < sheet_size(count, patterns) {

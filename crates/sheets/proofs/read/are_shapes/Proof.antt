@@ -12,7 +12,7 @@ use Rattle.masks.proofs.ListLaws.{split}
 use Rattle.sheets.specs.Bytes.{parts}
 use Rattle.sheets.specs.inner.Checks.{isShape, areShapes}
 use Rattle.sheets.proofs.BytesLaws.{parts-length, getD-parts}
-use Rattle.sheets.proofs.ReadingLaws.{shapes-all, shapes-fail}
+use Rattle.sheets.proofs.ReadLaws.{shapes-all, shapes-fail}
 use Rattle.sheets.proofs.read.are_shapes.Statement.{statement}
 use Rattle.sheets.proofs.read.are_shapes.Tie as tie
 

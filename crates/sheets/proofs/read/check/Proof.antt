@@ -2,21 +2,21 @@
 use mathlib.Core.Path.{_≡_, sym, ap, ap₂, _∙_}
 use mathlib.Core.Bool.{true, true≢false}
 use mathlib.Core.List.{List, map}
-use Prim.Native.Nat.{ℕ, _+_, _*_}
+use Prim.Native.Nat.{ℕ, _+_, _-_, _*_, _≤_}
 use native.Mathlib.Omega.{arith}
 use borrow.Author.Needs.{needs}
 use borrow.Author.Tests.{not-true, not-false}
-use lib.ListN.{take, drop}
+use lib.ListN.{length, take, drop, length-drop}
 use Rattle.masks.specs.declared.shape.Shape.{Shape}
-use Rattle.masks.proofs.ListLaws.{take-laid}
 use Rattle.sheets.specs.declared.shapes.Shapes.{Shapes}
 use Rattle.sheets.specs.declared.read.SheetRead.{SheetRead}
 use Rattle.sheets.specs.Bytes.{fromLittleEndian, parts, itemsIn}
 use Rattle.sheets.specs.Format.{bladeTotal, anyAboveNine}
-use Rattle.sheets.specs.Shapes.{shapesOf, blankShapes}
-use Rattle.sheets.specs.Read.{shapeFrom, said, refusedSheet, aSheet, readOf}
+use Rattle.sheets.specs.Shapes.{shapesOf}
+use Rattle.sheets.specs.Read.{shapeFrom, saidShapes, said, refusedSheet, aSheet, readOf}
 use Rattle.sheets.specs.inner.Checks.{areShapes, checked}
-use Rattle.sheets.proofs.ReadingLaws.{shapesSaid, patternsSaid, shapes-count, patterns-count, WellFormed, shapes-small, checked-refused, checked-done}
+use Rattle.sheets.proofs.ShapesLaws.{listed-shapesOf}
+use Rattle.sheets.proofs.ReadLaws.{shapesSaid, patternsSaid, shapes-count, patterns-count, saidShapes-part, WellFormed, shapes-small, checked-refused, checked-done}
 use Rattle.sheets.proofs.read.check.Statement.{statement}
 use Rattle.sheets.proofs.read.check.Tie as tie
 
@@ -57,21 +57,30 @@ pass c = sym (tested (c .before)) ∙ not-false _ (c .if4 .left)
 
 -- which they are
 abbrev after-number : tie.After-shapes-from → tie.After-number-at
-after-number a = a .before .before .before .before .before
+after-number a = a .before .before .before .before .before .before
 
 found : (a : tie.After-shapes-from) → a .shapes-from .result ≡ shapesOf (shapes (bytes (after-number a)))
-found a = a .shapes-from .ensures ∙ ap (λ (ps : List (List ℕ)). shapesOf (map shapeFrom ps)) (items (after-number a))
+found a =
+    let n = after-number a .number-at .result in
+    let c = drop 2 (bytes (after-number a)) in
+    let h : 5 * n ≤ length c = omega (arith, a .before .before .before .before .if3 .left, length-drop 2 (bytes (after-number a))) in
+    let m : 2 + 5 * n - 2 ≡ 5 * n = omega arith in
+    a .shapes-from .ensures
+    ∙ ap (λ (k : ℕ). shapesOf (saidShapes (take k c))) m
+    ∙ ap shapesOf (saidShapes-part c n h)
+    ∙ ap (λ (ps : List (List ℕ)). shapesOf (map shapeFrom ps)) (items (after-number a))
 
 listed : (a : tie.After-shapes-from) → take (after-number a .number-at .result) (a .shapes-from .result .held) ≡ shapes (bytes (after-number a))
 unfolding said
 listed a =
     let b = bytes (after-number a) in
     ap (λ (ss : Shapes). take (after-number a .number-at .result) (ss .held)) (found a)
-    ∙ take-laid (after-number a .number-at .result) (shapes b) blankShapes (shapes-count b ∙ sym (counted (after-number a)))
+    ∙ ap (λ (n : ℕ). take n (shapesOf (shapes b) .held)) (counted (after-number a) ∙ sym (shapes-count b))
+    ∙ listed-shapesOf (shapes b) (omega (arith, shapes-count b, counted (after-number a), a .before .before .before .before .before .if2 .left))
 
 -- how many coefficients they have, and how many are said
-summed : (a : tie.After-blades-of) → a .blades-of .result ≡ bladeTotal (shapes (bytes (after-number (a .before))))
-summed a = a .blades-of .ensures ∙ ap bladeTotal (listed (a .before))
+summed : (a : tie.After-blade-total) → a .blade-total .result ≡ bladeTotal (shapes (bytes (after-number (a .before))))
+summed a = a .blade-total .ensures ∙ ap bladeTotal (listed (a .before))
 
 said-count : (a : tie.After-number-at2) → a .number-at2 .result ≡ patternsSaid (bytes (after-number (a .before .before)))
 said-count a =
@@ -124,13 +133,22 @@ returns-4 c =
     let a = c .before .before in
     refused (bytes (a .before .before .before)) (c .refused-sheet4 .result) (c .refused-sheet4 .ensures) (λ w. true≢false (sym (w .shapes) ∙ sym (tested a) ∙ not-true _ (c .before .if4 .taken)))
 
+sub-shapes-from : tie.Need-sub-shapes-from
+sub-shapes-from c = search needs
+
+part-shapes-from-start : tie.Need-part-shapes-from-start
+part-shapes-from-start c = search needs
+
+part-shapes-from-end : tie.Need-part-shapes-from-end
+part-shapes-from-end c = search needs
+
 shapes-from-requires : tie.Need-shapes-from-requires
 shapes-from-requires c κs = search needs
 
-blades-of-requires : tie.Need-blades-of-requires
-blades-of-requires c κs =
+blade-total-requires : tie.Need-blade-total-requires
+blade-total-requires c κs =
     let cs = itemsIn 2 5 (bytes (after-number c)) in
-    (omega arith, ap anyAboveNine (listed c) ∙ shapes-small cs (pass (c .before)))
+    (omega arith, ap anyAboveNine (listed c) ∙ shapes-small cs (pass (c .before .before)))
 
 number-at-requires-2 : tie.Need-number-at-requires-2
 number-at-requires-2 c κs = search needs
@@ -176,7 +194,7 @@ well : (c : tie.Else7) → WellFormed (bytes (after-number (c .before .before .b
 well c =
     let e = c .before .before in
     let a = e .before in
-    let f = a .before .before .before in
+    let f = a .before .before .before .before in
     let n = after-number (a .before .before) in
     record {
       counted = n .before .if1 .left;
@@ -215,8 +233,11 @@ check-spec =
     are-shapes-requires
     refused-sheet-requires-4
     returns-4
+    sub-shapes-from
+    part-shapes-from-start
+    part-shapes-from-end
     shapes-from-requires
-    blades-of-requires
+    blade-total-requires
     number-at-requires-2
     refused-sheet-requires-5
     returns-5

@@ -1,20 +1,21 @@
 -- `sheets::write::write` meets its contract: refused by its tests, else the four parts are written one after the other. Assumes nothing.
 use mathlib.Core.Path.{_≡_, refl, sym, ap, _∙_}
-use mathlib.Core.List.{List, [], _∷_, _++_}
+use mathlib.Core.List.{List}
 use Prim.Native.Nat.{ℕ, _+_, _*_, _≤_}
 use native.Mathlib.Omega.{arith}
 use lib.ListN.{length, length-map}
 use lib.Seq.{sets}
 use borrow.Author.Needs.{needs}
-use Rattle.masks.specs.Outcome.{refusal, noRoom, laid}
-use Rattle.masks.proofs.OutcomeLaws.{writes-refused, writes-done}
+use Rattle.masks.specs.Outcome.{refusal, laid}
+use Rattle.masks.proofs.RefusalLaws.{writes-refused, writes-done}
 use Rattle.sheets.specs.declared.shapes.Shapes.{Shapes}
 use Rattle.sheets.specs.Bytes.{littleEndian, allBytes}
-use Rattle.sheets.specs.Format.{shapeBytes, patternBytes, sheetBytes, limits}
+use Rattle.sheets.specs.Format.{shapeBytes, patternBytes, sheetBytes}
 use Rattle.sheets.specs.Shapes.{listedShapes}
-use Rattle.sheets.specs.Write.{sheetOf, writeSheet}
+use Rattle.sheets.specs.Write.{sheetOf, writeTests, writeSheet}
 use Rattle.sheets.proofs.FormatLaws.{sheetBytes-length}
-use Rattle.sheets.proofs.WritingLaws.{Writable, writable, room-same, written, listed-length}
+use Rattle.sheets.proofs.WriteLaws.{Writable, writable, room-same, written}
+use Rattle.sheets.proofs.ShapesLaws.{listed-length}
 use Rattle.sheets.proofs.write.write.Statement.{statement}
 use Rattle.sheets.proofs.write.write.Tie as tie
 
@@ -22,7 +23,7 @@ held-length : (c : tie.Start) → length (c .args .shapes .held) ≡ 64
 held-length c = sym (length-map (c .args .shapes .held) _) ∙ c .good .0 .1 .1 .1 .0 .1 .0 .1
 
 -- the number is that of the sheet's tests
-tested : (w : tie.After-write-refusal) → w .write-refusal .result ≡ refusal (limits (w .before .before .before .args .shapes .count) (listedShapes (w .before .before .before .args .shapes)) (length (w .before .before .before .args .patterns .now)) ++ (noRoom (length (w .before .before .before .args .out .now)) (length (sheetBytes (sheetOf (w .before .before .before .args .shapes) (w .before .before .before .args .patterns .now)))) ∷ []))
+tested : (w : tie.After-write-refusal) → w .write-refusal .result ≡ refusal (writeTests (w .before .before .before .args .shapes) (w .before .before .before .args .patterns .now) (length (w .before .before .before .args .out .now)))
 tested w =
     let a = w .before .before .before .args in
     w .write-refusal .ensures ∙ room-same (a .shapes) (a .patterns .now) (length (a .out .now)) (held-length (w .before .before .before))

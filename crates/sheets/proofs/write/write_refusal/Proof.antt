@@ -12,7 +12,7 @@ use Rattle.masks.specs.Outcome.{Test, refusal}
 use Rattle.masks.proofs.OutcomeLaws.{refused-first, refused-later}
 use Rattle.sheets.specs.Format.{anyAboveNine, bladeTotal, limits}
 use Rattle.sheets.specs.Shapes.{listedShapes}
-use Rattle.sheets.proofs.WritingLaws.{listed-most}
+use Rattle.sheets.proofs.ShapesLaws.{listed-most}
 use Rattle.sheets.proofs.write.write_refusal.Statement.{statement}
 use Rattle.sheets.proofs.write.write_refusal.Tie as tie
 
@@ -33,8 +33,8 @@ unfolding refusal
 three i ts =
     rw (above (i .before .before .before) ∙ i .before .before .if1 .left, le-ltb 64 _ (i .before .if2 .left), le-ltb 4096 _ (i .if3 .left))
 
-blades : (b : tie.After-blades-of) → b .blades-of .result ≡ bladeTotal (listedShapes (b .before .before .before .before .before .before .args .shapes))
-blades b = b .blades-of .ensures ∙ ap bladeTotal (listed (b .before .before .before .before .before))
+blades : (b : tie.After-blade-total) → b .blade-total .result ≡ bladeTotal (listedShapes (b .before .before .before .before .before .before .args .shapes))
+blades b = b .blade-total .ensures ∙ ap bladeTotal (listed (b .before .before .before .before .before))
 
 -- and the fourth
 four : (i : tie.Else4) → not (eqb (i .before .before .before .before .before .before .before .args .patterns) (bladeTotal (listedShapes (i .before .before .before .before .before .before .before .args .shapes)))) ≡ false
@@ -63,8 +63,8 @@ unfolding refusal
 returns-3 c =
     rw (above (c .before .before .before) ∙ c .before .before .if1 .left, le-ltb 64 _ (c .before .if2 .left), lt-ltb 4096 _ (c .if3 .taken))
 
-blades-of-requires : tie.Need-blades-of-requires
-blades-of-requires c κs = (omega arith, sym (c .before .before .before .any-above-nine .ensures) ∙ c .before .before .if1 .left)
+blade-total-requires : tie.Need-blade-total-requires
+blade-total-requires c κs = (omega arith, sym (c .before .before .before .any-above-nine .ensures) ∙ c .before .before .if1 .left)
 
 returns-4 : tie.Need-returns-4
 returns-4 c =
@@ -96,7 +96,7 @@ write-refusal-spec =
     returns
     returns-2
     returns-3
-    blades-of-requires
+    blade-total-requires
     returns-4
     sheet-size-requires
     returns-5

@@ -1,40 +1,30 @@
 -- Where the writer refuses, and that it writes the sheet's bytes: its tests one after the other, and its parts one after the other. Assumes nothing.
 use mathlib.Core.Path.{_≡_, refl, sym, ap, _∙_}
-use mathlib.Core.Logic.{⊎-elim}
 use mathlib.Core.List.{List, [], _∷_, _++_}
-use Prim.Native.Nat.{ℕ, _+_, _*_, _≤_, _<_, min}
+use Prim.Native.Nat.{ℕ, _+_, _*_, _≤_}
 use native.Mathlib.Omega.{arith}
-use lib.ListN.{length, take, length-append}
-use lib.Seq.{length-take-le, take-all, sets}
+use lib.ListN.{length, length-append}
+use lib.Seq.{sets}
 use borrow.Author.Tests.{ltb-false}
 use Rattle.masks.specs.declared.shape.Shape.{Shape}
 use Rattle.masks.specs.Outcome.{laid, refusal, noRoom}
-use Rattle.masks.proofs.ListLaws.{split, sets-laid}
-use Rattle.masks.proofs.OutcomeLaws.{past, fewer-pass, rest-same}
+use Rattle.masks.proofs.ListLaws.{sets-laid}
+use Rattle.masks.proofs.RefusalLaws.{past, fewer-pass, rest-same}
 use Rattle.masks.proofs.TextLaws.{sets-more}
 use Rattle.sheets.specs.declared.shapes.Shapes.{Shapes}
 use Rattle.sheets.specs.Bytes.{littleEndian, allBytes, section}
 use Rattle.sheets.specs.Format.{shapeBytes, patternBytes, sheetBytes, limits}
 use Rattle.sheets.specs.Shapes.{listedShapes}
-use Rattle.sheets.specs.Write.{sheetOf}
+use Rattle.sheets.specs.Write.{sheetOf, writeTests}
 use Rattle.sheets.proofs.BytesLaws.{littleEndian-length, allBytes-length}
+use Rattle.sheets.proofs.ShapesLaws.{listed-length}
 use Rattle.sheets.proofs.FormatLaws as format
 use Rattle.sheets.proofs.FormatLaws.{Within, shapeBytes-length, sheetBytes-length}
-
-pub listed-length : (s : Shapes) → length (s .held) ≡ 64 → s .count ≤ 64 → length (listedShapes s) ≡ s .count
-listed-length s e h = length-take-le (s .count) (s .held) (omega arith)
-
--- as many as are held are all that can be listed
-pub listed-most : (s : Shapes) → length (s .held) ≡ 64 → take (min (s .count) 64) (s .held) ≡ listedShapes s
-listed-most s e =
-    ⊎-elim (λ (h : s .count < 64). let n : min (s .count) 64 ≡ s .count = omega arith in ap (λ (k : ℕ). take k (s .held)) n)
-    (λ (h : 64 ≤ s .count). take-all (min (s .count) 64) (s .held) (omega arith) ∙ sym (take-all (s .count) (s .held) (omega arith)))
-    (split (s .count) 64)
 
 -- ---- refusals
 
 -- the count of bytes that is tested is that of the sheet's bytes, where the tests before it pass
-pub room-same : (s : Shapes) (xs : List ℕ) (room : ℕ) → length (s .held) ≡ 64 → refusal (limits (s .count) (listedShapes s) (length xs) ++ (noRoom room (6 + 5 * s .count + 8 * length xs) ∷ [])) ≡ refusal (limits (s .count) (listedShapes s) (length xs) ++ (noRoom room (length (sheetBytes (sheetOf s xs))) ∷ []))
+pub room-same : (s : Shapes) (xs : List ℕ) (room : ℕ) → length (s .held) ≡ 64 → refusal (limits (s .count) (listedShapes s) (length xs) ++ (noRoom room (6 + 5 * s .count + 8 * length xs) ∷ [])) ≡ refusal (writeTests s xs room)
 room-same s xs room e =
     rest-same (limits (s .count) (listedShapes s) (length xs)) _ _
     (λ p. ap (λ (k : ℕ). refusal (noRoom room k ∷ [])) (size (format.within (s .count) (listedShapes s) (length xs) p .few)))

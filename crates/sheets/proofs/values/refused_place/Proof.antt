@@ -1,7 +1,7 @@
--- `sheets::shapes::refused_place` meets its contract. Assumes nothing.
+-- `sheets::values::refused_place` meets its contract. Assumes nothing.
 use borrow.Author.Needs.{needs}
-use Rattle.sheets.proofs.shapes.refused_place.Statement.{statement}
-use Rattle.sheets.proofs.shapes.refused_place.Tie as tie
+use Rattle.sheets.proofs.values.refused_place.Statement.{statement}
+use Rattle.sheets.proofs.values.refused_place.Tie as tie
 
 shape-of-requires : tie.Need-shape-of-requires
 shape-of-requires c κs = search needs

@@ -1,4 +1,4 @@
--- `sheets::shapes::value_at` meets its contract, by the cases of its tests: the shapes that are gone through are those that are listed, since 64 are held. Assumes nothing.
+-- `sheets::values::value_at` meets its contract, by the cases of its tests: the shapes that are gone through are those that are listed, since 64 are held. Assumes nothing.
 use mathlib.Core.Path.{_≡_, sym, _∙_}
 use mathlib.Core.Bool.{true, false}
 use Prim.Native.Nat.{ℕ, min, _≤_, _<_}
@@ -14,9 +14,9 @@ use Rattle.sheets.specs.Format.{anyAboveNine, bladeTotal}
 use Rattle.sheets.specs.Values.{refusedPlace, valueAt}
 use Rattle.sheets.specs.Shapes.{listedShapes}
 use Rattle.sheets.proofs.FormatLaws.{above-take}
-use Rattle.sheets.proofs.WritingLaws.{listed-most}
-use Rattle.sheets.proofs.shapes.value_at.Statement.{statement}
-use Rattle.sheets.proofs.shapes.value_at.Tie as tie
+use Rattle.sheets.proofs.ShapesLaws.{listed-most}
+use Rattle.sheets.proofs.values.value_at.Statement.{statement}
+use Rattle.sheets.proofs.values.value_at.Tie as tie
 
 module _ (s : Shapes) (n i : ℕ) (held : length (s .held) ≡ 64) (counted : n ≡ min (s .count) 64) where
   -- the first n are those that are listed
@@ -74,8 +74,8 @@ returns-2 c =
     c .refused-place2 .ensures
     ∙ sym (value-past (s .args .t1) (listed .result) (s .args .index) (held-length s) (listed .ensures) (sym (above .ensures) ∙ c .before .before .if1 .left) (c .before .if2 .taken))
 
-blades-of-requires : tie.Need-blades-of-requires
-blades-of-requires c κs =
+blade-total-requires : tie.Need-blade-total-requires
+blade-total-requires c κs =
     let s = c .before .before .before .before in
     let listed = c .before .before .before .listed-count in
     let above = c .before .before .any-above-nine in (
@@ -95,7 +95,7 @@ returns-3 c =
     let listed = c .before .before .before .before .before .listed-count in
     let above = c .before .before .before .before .any-above-nine in
     value-listed (s .args .t1) (listed .result) (s .args .index) (held-length s) (listed .ensures) (sym (above .ensures) ∙ c .before .before .before .if1 .left)
-    (c .before .before .if2 .left) (c .before .blades-of .result) (c .before .blades-of .ensures)
+    (c .before .before .if2 .left) (c .before .blade-total .result) (c .before .blade-total .ensures)
 
 pub value-at-spec : {M : Type 1} → statement M
 value-at-spec =
@@ -107,7 +107,7 @@ value-at-spec =
     returns
     refused-place-requires-2
     returns-2
-    blades-of-requires
+    blade-total-requires
     mul-shape
     element-copy-out-shape
     returns-3)

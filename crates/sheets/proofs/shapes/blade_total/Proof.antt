@@ -1,4 +1,4 @@
--- `sheets::shapes::blades_of` meets its contract. The invariant: the sum is that of the first i shapes. Assumes nothing.
+-- `sheets::shapes::blade_total` meets its contract. The invariant: the sum is that of the first i shapes. Assumes nothing.
 use mathlib.Core.Path.{_≡_, refl, sym, ap, _∙_}
 use mathlib.Core.Bool.{false}
 use mathlib.Core.List.{List}
@@ -13,10 +13,10 @@ use Rattle.masks.specs.Order.{bladeCount}
 use Rattle.masks.specs.Outcome.{shapeOf}
 use Rattle.masks.proofs.OrderLaws.{blades-le, blades-counted}
 use Rattle.sheets.specs.Format.{anyAboveNine, bladeTotal}
-use Rattle.sheets.proofs.FormatLaws.{above-take, dims-at, bladesOf-le}
+use Rattle.sheets.proofs.FormatLaws.{above-take, dims-at, bladeTotal-le}
 use Rattle.sheets.proofs.ValuesLaws.{start-next}
-use Rattle.sheets.proofs.shapes.blades_of.Statement.{statement}
-use Rattle.sheets.proofs.shapes.blades_of.Tie as tie
+use Rattle.sheets.proofs.shapes.blade_total.Statement.{statement}
+use Rattle.sheets.proofs.shapes.blade_total.Tie as tie
 
 abbrev at : List Shape → ℕ → Shape
 at ss i = getD ss i (shapeOf 0 Vanilla)
@@ -33,7 +33,7 @@ module _ (ss : List Shape) (n i : ℕ) (few : n ≤ length ss) (small : anyAbove
   sum-small : i ≤ n → bladeTotal (take i ss) ≤ 512 * i
   sum-small h =
       let none : anyAboveNine (take i ss) ≡ false = rw (← (take-take i n ss h)) (above-take i (take n ss) small) in
-      omega (arith, bladesOf-le (take i ss) none, length-take-le i ss (omega arith))
+      omega (arith, bladeTotal-le (take i ss) none, length-take-le i ss (omega arith))
 
 abbrev Inv-loop : tie.InvT-loop
 Inv-loop n shapes sum₀ i₀ sum i = (i ≤ n) × (sum ≡ bladeTotal (take i (shapes .held)))
@@ -99,8 +99,8 @@ returns c =
     let all : l .i ≡ s .n = omega arith in
     l .inv .1 ∙ ap (λ (k : ℕ). bladeTotal (take k (s .t1 .held))) all
 
-pub blades-of-spec : {M : Type 1} → statement M
-blades-of-spec =
+pub blade-total-spec : {M : Type 1} → statement M
+blade-total-spec =
     tie.close
     (tie.spec
     Inv-loop

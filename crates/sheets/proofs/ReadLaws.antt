@@ -2,7 +2,7 @@
 use mathlib.Core.Path.{_≡_, refl, sym, ap, ap₂, _∙_}
 use mathlib.Core.Bool.{Bool, true, false, not, _&&_, _||_, false≢true}
 use mathlib.Core.List.{List, [], _∷_, _++_, map}
-use Prim.Native.Nat.{ℕ, zero, suc, _+_, _*_, _^_, _≤_, _<_, suc-le-suc}
+use Prim.Native.Nat.{ℕ, zero, suc, _+_, _*_, _/_, _^_, _≤_, _<_, suc-le-suc}
 use native.Mathlib.Nat.{le-of-suc-le-suc, not-suc-le-zero, zero-lt-suc}
 use native.Mathlib.Omega.{arith}
 use lib.Dec.{ltb}
@@ -17,9 +17,9 @@ use Rattle.masks.proofs.ListLaws.{getD-map, both-true}
 use Rattle.sheets.specs.declared.read.SheetRead.{SheetRead}
 use Rattle.sheets.specs.Bytes.{littleEndian, fromLittleEndian, section, parts, countIn, itemsIn, afterSection}
 use Rattle.sheets.specs.Format.{Sheet, shapeBytes, patternBytes, sheetBytes, bladeTotal, anyAboveNine}
-use Rattle.sheets.specs.Read.{shapeFrom, said, isSheet, isSheetBytes, ReadOutcome, refusedSheet, aSheet, readSheet, Reads}
+use Rattle.sheets.specs.Read.{shapeFrom, saidShapes, said, isSheet, isSheetBytes, ReadOutcome, refusedSheet, aSheet, readSheet, Reads}
 use Rattle.sheets.specs.inner.Checks.{isShape, areShapes, checked}
-use Rattle.sheets.proofs.BytesLaws.{AreBytes, littleEndian-number, take-bytes, drop-bytes, items-section, parts-length, getD-parts, allBytes-parts}
+use Rattle.sheets.proofs.BytesLaws.{AreBytes, littleEndian-number, take-bytes, drop-bytes, items-section, parts-length, getD-parts, parts-take, allBytes-parts}
 use Rattle.sheets.proofs.FormatLaws.{shapeBytes-length, shapeFrom-shapeBytes, sheetBytes-length, same-true, same-refl, dims-at, sheet-within, within-sheet}
 
 -- how many shapes and coefficients bytes say that they have
@@ -36,6 +36,29 @@ shapes-count b = length-map (itemsIn 2 5 b) shapeFrom ∙ parts-length 5 (shapes
 pub patterns-count : (b : List ℕ) → length (said b .patterns) ≡ patternsSaid b
 unfolding said
 patterns-count b = length-map (itemsIn 4 8 (afterSection 2 5 b)) fromLittleEndian ∙ parts-length 8 (patternsSaid b) (drop 4 (afterSection 2 5 b))
+
+-- ---- a list of shapes
+
+pub saidShapes-length : (b : List ℕ) → length (saidShapes b) ≡ length b / 5
+unfolding saidShapes
+saidShapes-length b = length-map (parts 5 (length b / 5) b) shapeFrom ∙ parts-length 5 (length b / 5) b
+
+-- shape i is what the five bytes from 5 * i on say
+pub saidShapes-at : (b : List ℕ) (i : ℕ) → i < length b / 5 → getD (saidShapes b) i (shapeOf 0 Vanilla) ≡ shapeFrom (take 5 (drop (5 * i) b))
+unfolding saidShapes
+saidShapes-at b i h =
+    getD-map shapeFrom (parts 5 (length b / 5) b) i [] (shapeOf 0 Vanilla) (omega (arith, parts-length 5 (length b / 5) b))
+    ∙ ap shapeFrom (getD-parts 5 (length b / 5) b i h)
+
+-- n shapes are said by 5 * n bytes
+pub saidShapes-part : (b : List ℕ) (n : ℕ) → 5 * n ≤ length b → saidShapes (take (5 * n) b) ≡ map shapeFrom (parts 5 n b)
+unfolding saidShapes
+saidShapes-part b n h =
+    let l = length-take-le (5 * n) b h in
+    let m : length (take (5 * n) b) / 5 ≡ n = omega arith in
+    ap (λ (k : ℕ). map shapeFrom (parts 5 k (take (5 * n) b))) m ∙ ap (map shapeFrom) (parts-take 5 n b h)
+
+-- ---- the checks
 
 -- what is checked, one thing after the other
 pub record WellFormed (b : List ℕ) : Type 0 where
