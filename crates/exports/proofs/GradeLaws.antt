@@ -1,4 +1,4 @@
--- The size of a grade, and that what is told of a grade is where its part of the value is. Assumes nothing.
+-- The size of a grade, and that what is reported of a grade is where its part of the value is. Assumes nothing.
 use mathlib.Core.Path.{_≡_, refl}
 use mathlib.Core.List.{List, []}
 use Prim.Native.Nat.{ℕ, _≤_}

@@ -1,4 +1,4 @@
--- A contract of each kind leaves nothing open: what is returned, told and written is one. And a refusal tells nothing. Assumes nothing.
+-- A contract of each kind leaves nothing open: what is returned, reported and written is one. And a refusal reports nothing. Assumes nothing.
 use mathlib.Core.Path.{_≡_, sym, ap, _∙_}
 use mathlib.Core.List.{List, [], map}
 use Prim.Native.Nat.{ℕ, zero, suc, _^_}
@@ -8,41 +8,42 @@ use Rattle.masks.specs.Outcome.{Outcome, Pair, Written, unless, laid}
 use Rattle.product.specs.Products.{Counted}
 use Rattle.arithmetic.specs.Kept.{Halves}
 use Rattle.sheets.specs.Read.{ReadOutcome}
-use Rattle.exports.specs.Told.{told, Tells, TellsValue, TellsPair, TellsProduct, TellsTaken, TellsList}
-use Rattle.exports.specs.Parts.{taken, TellsOrderOf, TellsSheet}
+use Rattle.exports.specs.Reports.{reported, Reports, ReportsValue, ReportsPair, ReportsProduct, ReportsTaken, ReportsList}
+use Rattle.exports.specs.Order.{ReportsOrderOf}
+use Rattle.exports.specs.Sheet.{ReportsSheet}
 
 -- A refused call leaves its references as they were.
-pub refused-keeps : {A : Type 0} (k : ℕ) {x : A} {r : ℕ} {held holds : A} → (r ≡ 0 → ⊥) → Tells k x r held holds → holds ≡ held
-unfolding told unless
+pub refused-keeps : {A : Type 0} (k : ℕ) {x : A} {r : ℕ} {held holds : A} → (r ≡ 0 → ⊥) → Reports k x r held holds → holds ≡ held
+unfolding reported unless
 refused-keeps zero h t = absurd (h (t .returned))
 refused-keeps (suc k) h t = t .holding
 
--- ---- of two ways to meet one contract, what is returned, told and written is the same
+-- ---- of two ways to meet one contract, what is returned, reported and written is the same
 
-pub one-told : {A : Type 0} {k : ℕ} {x : A} {r s : ℕ} {held holds keeps : A} → Tells k x r held holds → Tells k x s held keeps → (r ≡ s) × (holds ≡ keeps)
-one-told t u = (t .returned ∙ sym (u .returned), t .holding ∙ sym (u .holding))
+pub one-reported : {A : Type 0} {k : ℕ} {x : A} {r s : ℕ} {held holds keeps : A} → Reports k x r held holds → Reports k x s held keeps → (r ≡ s) × (holds ≡ keeps)
+one-reported t u = (t .returned ∙ sym (u .returned), t .holding ∙ sym (u .holding))
 
-pub one-value : {o : Outcome} {r s : ℕ} {before after other : List Float} {held holds keeps : List ℕ} → TellsValue o r before after held holds → TellsValue o s before other held keeps → (r ≡ s) × (holds ≡ keeps) × (after ≡ other)
-one-value t u = let q = one-told (t .tells) (u .tells) in (q .0, q .1, t .left ∙ sym (u .left))
+pub one-value : {o : Outcome} {r s : ℕ} {before after other : List Float} {held holds keeps : List ℕ} → ReportsValue o r before after held holds → ReportsValue o s before other held keeps → (r ≡ s) × (holds ≡ keeps) × (after ≡ other)
+one-value t u = let q = one-reported (t .reports) (u .reports) in (q .0, q .1, t .left ∙ sym (u .left))
 
-pub one-pair : {o : Pair} {r s : ℕ} {before after other beforeRight afterRight otherRight : List Float} {held holds keeps : List ℕ} → TellsPair o r before after beforeRight afterRight held holds → TellsPair o s before other beforeRight otherRight held keeps → (r ≡ s) × (holds ≡ keeps) × (after ≡ other) × (afterRight ≡ otherRight)
-one-pair t u = let q = one-told (t .tells) (u .tells) in (q .0, q .1, t .left ∙ sym (u .left), t .right ∙ sym (u .right))
+pub one-pair : {o : Pair} {r s : ℕ} {before after other beforeRight afterRight otherRight : List Float} {held holds keeps : List ℕ} → ReportsPair o r before after beforeRight afterRight held holds → ReportsPair o s before other beforeRight otherRight held keeps → (r ≡ s) × (holds ≡ keeps) × (after ≡ other) × (afterRight ≡ otherRight)
+one-pair t u = let q = one-reported (t .reports) (u .reports) in (q .0, q .1, t .left ∙ sym (u .left), t .right ∙ sym (u .right))
 
-pub one-product : {o : Counted} {r s : ℕ} {before after other : List Float} {held holds keeps : List ℕ} → TellsProduct o r before after held holds → TellsProduct o s before other held keeps → (r ≡ s) × (holds ≡ keeps) × (after ≡ other)
-one-product t u = let q = one-told (t .tells) (u .tells) in (q .0, q .1, t .left ∙ sym (u .left))
+pub one-product : {o : Counted} {r s : ℕ} {before after other : List Float} {held holds keeps : List ℕ} → ReportsProduct o r before after held holds → ReportsProduct o s before other held keeps → (r ≡ s) × (holds ≡ keeps) × (after ≡ other)
+one-product t u = let q = one-reported (t .reports) (u .reports) in (q .0, q .1, t .left ∙ sym (u .left))
 
-pub one-taken : {o : Halves} {r s : ℕ} {before after other : List Float} {held holds keeps : List ℕ × Float} → TellsTaken o r before after held holds → TellsTaken o s before other held keeps → (r ≡ s) × (holds ≡ keeps) × (after ≡ other)
-one-taken t u = let q = one-told (t .tells) (u .tells) in (q .0, q .1, t .left ∙ sym (u .left))
+pub one-taken : {o : Halves} {r s : ℕ} {before after other : List Float} {held holds keeps : List ℕ × Float} → ReportsTaken o r before after held holds → ReportsTaken o s before other held keeps → (r ≡ s) × (holds ≡ keeps) × (after ≡ other)
+one-taken t u = let q = one-reported (t .reports) (u .reports) in (q .0, q .1, t .left ∙ sym (u .left))
 
-pub one-list : {A : Type 0} {o : Written A} {r s : ℕ} {before after other : List A} {held holds keeps : ℕ} → TellsList o r before after held holds → TellsList o s before other held keeps → (r ≡ s) × (holds ≡ keeps) × (after ≡ other)
-one-list t u = let q = one-told (t .tells) (u .tells) in (q .0, q .1, t .left ∙ sym (u .left))
+pub one-list : {A : Type 0} {o : Written A} {r s : ℕ} {before after other : List A} {held holds keeps : ℕ} → ReportsList o r before after held holds → ReportsList o s before other held keeps → (r ≡ s) × (holds ≡ keeps) × (after ≡ other)
+one-list t u = let q = one-reported (t .reports) (u .reports) in (q .0, q .1, t .left ∙ sym (u .left))
 
-pub one-sheet : {o : ReadOutcome} {bytes : List ℕ} {r s : ℕ} {before after other held holds keeps : List ℕ} → TellsSheet o bytes r before after held holds → TellsSheet o bytes s before other held keeps → (r ≡ s) × (holds ≡ keeps) × (after ≡ other)
-one-sheet t u = let q = one-told (t .tells) (u .tells) in (q .0, q .1, t .left ∙ sym (u .left))
+pub one-sheet : {o : ReadOutcome} {bytes : List ℕ} {r s : ℕ} {before after other held holds keeps : List ℕ} → ReportsSheet o bytes r before after held holds → ReportsSheet o bytes s before other held keeps → (r ≡ s) × (holds ≡ keeps) × (after ≡ other)
+one-sheet t u = let q = one-reported (t .reports) (u .reports) in (q .0, q .1, t .left ∙ sym (u .left))
 
-pub one-order : {d r s : ℕ} {before after other beforeRight afterRight otherRight : List ℕ} {held holds keeps : ℕ} → TellsOrderOf d r before after beforeRight afterRight held holds → TellsOrderOf d s before other beforeRight otherRight held keeps → (r ≡ s) × (holds ≡ keeps) × (after ≡ other) × (afterRight ≡ otherRight)
+pub one-order : {d r s : ℕ} {before after other beforeRight afterRight otherRight : List ℕ} {held holds keeps : ℕ} → ReportsOrderOf d r before after beforeRight afterRight held holds → ReportsOrderOf d s before other beforeRight otherRight held keeps → (r ≡ s) × (holds ≡ keeps) × (after ≡ other) × (afterRight ≡ otherRight)
 one-order {d} {before = before} {beforeRight = beforeRight} t u =
-    let q = one-told (t .tells) (u .tells) in (
+    let q = one-reported (t .reports) (u .reports) in (
       q .0,
       q .1,
       t .left ∙ ap (λ (k : ℕ). laid (unless (λ _. []) k (order (taken d))) before) (q .0) ∙ sym (u .left),

@@ -1,4 +1,4 @@
--- The order of the dimensions that are taken, and what is told of it where the outputs have room and where not. Assumes nothing.
+-- The order of the dimensions that are taken, and what is reported of it where the outputs have room and where not. Assumes nothing.
 use mathlib.Core.Path.{_≡_, refl, sym, ap, _∙_}
 use mathlib.Core.List.{List, map}
 use mathlib.Core.Logic.{⊎-elim}
@@ -12,9 +12,9 @@ use Rattle.masks.specs.Order.{order, place, upFrom, placesOf, held, orderFor, b
 use Rattle.masks.specs.Outcome.{refusal, unless, laid}
 use Rattle.masks.proofs.ListLaws.{split}
 use Rattle.masks.proofs.OrderLaws.{blades-le, take-masks, up-length}
-use Rattle.masks.proofs.OrderPasses.{masks-length, places-length}
-use Rattle.exports.specs.Told.{told}
-use Rattle.exports.specs.Parts.{taken, orderRefusal, TellsOrderOf}
+use Rattle.masks.proofs.PassLaws.{masks-length, places-length}
+use Rattle.exports.specs.Reports.{reported}
+use Rattle.exports.specs.Order.{orderRefusal, ReportsOrderOf}
 
 -- ---- the record that is copied
 
@@ -51,19 +51,19 @@ sorted d o n e f =
       places-in = ap (λ (k : ℕ). take k (o .places)) m ∙ ap (λ (q : Order). take (2 ^ taken d) (q .places)) e ∙ take-places (taken d);
     }
 
--- ---- what is told
+-- ---- what is reported
 
 -- One of the outputs is shorter than the count.
-order-refused : (d : ℕ) (masks places : List ℕ) (count : ℕ) → orderRefusal d (length masks) (length places) ≡ 3 → TellsOrderOf d 3 masks masks places places count count
-unfolding told unless
-order-refused d masks places count e = record { tells = record { returned = sym e; holding = rw e }; left = refl; right = refl }
+order-refused : (d : ℕ) (masks places : List ℕ) (count : ℕ) → orderRefusal d (length masks) (length places) ≡ 3 → ReportsOrderOf d 3 masks masks places places count count
+unfolding reported unless
+order-refused d masks places count e = record { reports = record { returned = sym e; holding = rw e }; left = refl; right = refl }
 
 module _ (d n : ℕ) (masks places : List ℕ) (count : ℕ) (e : n ≡ 2 ^ taken d) where
-  pub masks-short : length masks < n → TellsOrderOf d 3 masks masks places places count count
+  pub masks-short : length masks < n → ReportsOrderOf d 3 masks masks places places count count
   unfolding orderRefusal refusal
   masks-short h = order-refused d masks places count (rw (lt-ltb (length masks) (2 ^ taken d) (omega (arith, e))))
 
-  pub places-short : n ≤ length masks → length places < n → TellsOrderOf d 3 masks masks places places count count
+  pub places-short : n ≤ length masks → length places < n → ReportsOrderOf d 3 masks masks places places count count
   unfolding orderRefusal refusal
   places-short g h =
       order-refused d masks places count
@@ -75,12 +75,12 @@ module _ (d n : ℕ) (masks places : List ℕ) (count : ℕ) (e : n ≡ 2 ^ take
       rw (le-ltb (length masks) (2 ^ taken d) (omega (arith, e)), le-ltb (length places) (2 ^ taken d) (omega (arith, e)))
 
 -- Both outputs have room.
-pub order-told : (d : ℕ) (o : Order) (n : ℕ) (masks masks′ places places′ : List ℕ) (count : ℕ) → Sorted d o n → n ≤ length masks → n ≤ length places → masks′ ≡ laid (take n (o .masks)) masks → places′ ≡ laid (take n (o .places)) places → TellsOrderOf d 0 masks masks′ places places′ count n
-unfolding told unless
-order-told d o n masks masks′ places places′ count s g h e f =
+pub order-reported : (d : ℕ) (o : Order) (n : ℕ) (masks masks′ places places′ : List ℕ) (count : ℕ) → Sorted d o n → n ≤ length masks → n ≤ length places → masks′ ≡ laid (take n (o .masks)) masks → places′ ≡ laid (take n (o .places)) places → ReportsOrderOf d 0 masks masks′ places places′ count n
+unfolding reported unless
+order-reported d o n masks masks′ places places′ count s g h e f =
     let r = roomy d n masks places count (s .counted) g h in
     record {
-      tells = record { returned = sym r; holding = rw r (s .counted) };
+      reports = record { returned = sym r; holding = rw r (s .counted) };
       left = e ∙ ap (λ l. laid l masks) (s .masks-in);
       right = f ∙ ap (λ l. laid l places) (s .places-in);
     }

@@ -1,96 +1,125 @@
--- Laws of the calls on sheets: where a list of shapes is refused by its bytes, what five bytes say, and where the shapes of a sheet stand in it. Assumes nothing.
-use mathlib.Core.Path.{_≡_, refl, sym, ap, _∙_, subst}
-use mathlib.Core.Bool.{Bool, true, false, cond}
+-- Laws of the calls on sheets whose shapes are bytes: what they say of the dimensions, where a list is refused by its bytes alone, and where the shapes of a sheet stand in it. Assumes nothing.
+use mathlib.Core.Path.{_≡_, refl, sym, ap, ap₂, _∙_, subst}
+use mathlib.Core.Logic.{⊎-elim}
+use mathlib.Core.Bool.{Bool, true, false, cond, false≢true}
 use mathlib.Core.List.{List, [], _∷_, _++_, append-assoc}
-use Prim.Native.Nat.{ℕ, _+_, _*_, _%_, _<_}
+use Prim.Native.Nat.{ℕ, _+_, _*_, _/_, _≤_, _<_}
 use native.Mathlib.Nat.{add-zero}
 use native.Mathlib.Omega.{arith}
-use borrow.Author.Tests.{eq-eqb, ne-eqb, le-leb}
-use lib.ListN.{length, getD, take, drop, length-take}
+use borrow.Author.Tests.{lt-ltb}
+use lib.ListN.{length, getD, take, drop}
 use lib.Seq.{getD-take, getD-drop, take-at, drop-at}
+use Rattle.masks.specs.declared.flavor.Flavor.the-variants.{Vanilla}
 use Rattle.masks.specs.declared.shape.Shape.{Shape}
-use Rattle.masks.specs.Outcome.{Test, refusal, unless, refusedList}
-use Rattle.masks.proofs.OutcomeLaws.{unless-refused, unless-number}
+use Rattle.masks.specs.Outcome.{Test, refusal, unless, shapeOf, noRoom, refusedList, listed}
+use Rattle.masks.proofs.ListLaws.{split}
+use Rattle.masks.proofs.RefusalLaws.{past, rest-same, refused-later, unless-refused}
 use Rattle.sheets.specs.declared.read.SheetRead.{SheetRead}
-use Rattle.sheets.specs.declared.shapes.Shapes.{Shapes}
-use Rattle.sheets.specs.declared.shapes.Placed.{Placed}
 use Rattle.sheets.specs.Bytes.{littleEndian, allBytes, section}
-use Rattle.sheets.specs.Format.{Sheet, anyAboveNine, shapeBytes, patternBytes, sheetBytes}
-use Rattle.sheets.specs.Read.{shapeFrom, readSheet, Reads}
-use Rattle.sheets.specs.Shapes.{listedShapes}
-use Rattle.sheets.specs.Values.{valueAt, refusedPlace}
-use Rattle.sheets.specs.Write.{writeSheet}
+use Rattle.sheets.specs.Format.{Sheet, anyAboveNine, aboveNine, limits, shapeBytes, patternBytes, sheetBytes}
+use Rattle.sheets.specs.Read.{shapeFrom, saidShapes, readSheet, Reads}
+use Rattle.sheets.specs.Shapes.{listedShapes, shapesOf}
+use Rattle.sheets.specs.Values.{valueTests, valueAt, placedAt, refusedPlace}
+use Rattle.sheets.specs.Write.{writeTests, writeSheet}
 use Rattle.sheets.proofs.BytesLaws.{littleEndian-length, allBytes-length}
-use Rattle.sheets.proofs.FormatLaws.{shapeBytes-length}
+use Rattle.sheets.proofs.FormatLaws.{shapeBytes-length, above-take}
+use Rattle.sheets.proofs.ShapesLaws.{listed-first, listed-shapesOf}
+use Rattle.sheets.proofs.ReadLaws.{saidShapes-at}
 use Rattle.sheets.proofs.RoundTrips.{sound}
-use Rattle.exports.specs.Numbers.{shaped}
-use Rattle.exports.specs.Parts.{saidShapes, fivesTests, writeFrom, valueFrom, TellsCounts, TellsSheet}
+use Rattle.exports.specs.Sheet.{notFives, writeFromTests, writeFrom, sheetFrom, firstShapes, valueFromTests, valueFrom, ReportsCounts, ReportsSheet}
 
--- ---- what five bytes say
+-- ---- what bytes say of the dimensions
 
--- Byte i of the five from the place `at` on is byte at + i of the whole.
-byte-of : (b : List ℕ) (at i : ℕ) → i < 5 → getD (take 5 (drop at b)) i 0 ≡ getD b (at + i) 0
-byte-of b at i h = getD-take 5 (drop at b) i 0 h ∙ getD-drop at b i 0
-
--- A shape made of the five bytes one by one is the shape that they say.
-pub shape-of-five : (b : List ℕ) (at : ℕ) {s : Shape} → s ≡ shaped (getD b at 0) (getD b (at + 1) 0) (getD b (at + 2) 0) (getD b (at + 3) 0) (getD b (at + 4) 0) → s ≡ shapeFrom (take 5 (drop at b))
+-- Those of shape i are byte 5 * i.
+pub dims-said : (b : List ℕ) (i : ℕ) → i < length b / 5 → getD (saidShapes b) i (shapeOf 0 Vanilla) .dims ≡ getD b (5 * i) 0
 unfolding shapeFrom
-shape-of-five b at e =
-    rw (byte-of b at 0 (omega arith), byte-of b at 1 (omega arith), byte-of b at 2 (omega arith), byte-of b at 3 (omega arith), byte-of b at 4 (omega arith), add-zero at)
-    e
+dims-said b i h =
+    ap (λ (s : Shape). s .dims) (saidShapes-at b i h)
+    ∙ getD-take 5 (drop (5 * i) b) 0 0 (omega arith)
+    ∙ getD-drop (5 * i) b 0 0
+    ∙ ap (λ (k : ℕ). getD b k 0) (add-zero (5 * i))
 
--- ---- where no value of a sheet is, a value is refused
+-- ---- a list of shapes that is refused by its bytes alone
 
--- The value past all that may be listed is refused with 1 where a dimension is above 9, and else with 2.
-pub value-nowhere : (s : Shapes) → length (s .held) ≡ 64 → valueAt s 64 .number ≡ cond (anyAboveNine (listedShapes s)) 1 2
-unfolding valueAt refusal
-value-nowhere s e =
-    unless-number (λ (p : Placed). p .number) refusedPlace _ _ refl refl
-    ∙ rw (le-leb (length (listedShapes s)) 64 (omega (arith, length-take (s .count) (s .held))))
+-- The tests of the bytes alone: 1, then 2.
+abbrev pub listTests : List ℕ → List Test
+listTests b = aboveNine (saidShapes b) ∷ notFives b ∷ []
 
--- ---- a list of shapes is refused with 1 where a dimension is above 9, and else with 2 where its bytes are no fives
+-- Their number, by whether each fails.
+abbrev oneOrTwo : Bool → Bool → ℕ
+oneOrTwo a w = cond a 1 (cond w 2 0)
 
--- A first test that fails with 1 may be tried once more.
-tried-again : {A : Type 0} (f : ℕ → A) (above : Bool) (ts : List Test) (a : A) → unless f (refusal (record { fails = above; number = 1 } ∷ [])) (unless f (refusal (record { fails = above; number = 1 } ∷ ts)) a) ≡ unless f (refusal (record { fails = above; number = 1 } ∷ ts)) a
-unfolding refusal unless
-tried-again f true ts a = refl
-tried-again f false ts a = refl
+-- Where it is not 0, tests with 2 between the two change nothing.
+one-or-two : (a x y z w : Bool) (ts : List Test) → (oneOrTwo a w ≡ 0 → ⊥) → refusal (record { fails = a; number = 1 } ∷ record { fails = x; number = 2 } ∷ record { fails = y; number = 2 } ∷ record { fails = z; number = 2 } ∷ record { fails = w; number = 2 } ∷ ts) ≡ oneOrTwo a w
+unfolding refusal
+one-or-two true x y z w ts h = refl
+one-or-two false x y z false ts h = absurd (h refl)
+one-or-two false true y z true ts h = refl
+one-or-two false false true z true ts h = refl
+one-or-two false false false true true ts h = refl
+one-or-two false false false false true ts h = refl
 
--- The number that shapes whose bytes are no fives are refused with.
-abbrev pub NotFives : Shapes → ℕ → Type 0
-NotFives ss n = n ≡ cond (anyAboveNine (listedShapes ss)) 1 2
+-- The same where the first test stands twice.
+first-or-two : (a f x w : Bool) → (a ≡ false → f ≡ false) → (oneOrTwo a w ≡ 0 → ⊥) → refusal (record { fails = a; number = 1 } ∷ record { fails = f; number = 1 } ∷ record { fails = x; number = 2 } ∷ record { fails = w; number = 2 } ∷ []) ≡ oneOrTwo a w
+unfolding refusal
+first-or-two true f x w g h = refl
+first-or-two false f x false g h = absurd (h refl)
+first-or-two false true x true g h = absurd (false≢true (sym (g refl)))
+first-or-two false false true true g h = refl
+first-or-two false false false true g h = refl
 
-pub not-fives-refused : (ss : Shapes) (n : ℕ) → NotFives ss n → n ≡ 0 → ⊥
-not-fives-refused ss n e z = go (anyAboveNine (listedShapes ss)) e
-  where
-    go : (above : Bool) → n ≡ cond above 1 2 → ⊥
-    go true q = omega arith
-    go false q = omega arith
+list-number : (b : List ℕ) → refusal (listTests b) ≡ oneOrTwo (anyAboveNine (saidShapes b)) (notFives b .fails)
+unfolding refusal
+list-number b = refl
 
-module _ (b : List ℕ) (ss : Shapes) (said : ss ≡ saidShapes b) where
-  not-fives : (n : ℕ) → NotFives ss n → (length b % 5 ≡ 0 → ⊥) → n ≡ refusal (fivesTests b)
-  unfolding refusal
-  not-fives n e h = rw (ne-eqb (length b % 5) 0 h, ← said) e
+module _ (b : List ℕ) (n : ℕ) (e : n ≡ refusal (listTests b)) (h : n ≡ 0 → ⊥) where
+  refused : oneOrTwo (anyAboveNine (saidShapes b)) (notFives b .fails) ≡ 0 → ⊥
+  refused z = h (e ∙ list-number b ∙ z)
 
-  fives : length b % 5 ≡ 0 → refusal (fivesTests b) ≡ refusal (record { fails = anyAboveNine (listedShapes ss); number = 1 } ∷ [])
-  unfolding refusal
-  fives h = rw (eq-eqb (length b % 5) 0 h, ← said)
-
-  pub write-refused : (xs : List ℕ) (room n : ℕ) → NotFives ss n → (length b % 5 ≡ 0 → ⊥) → refusedList n ≡ writeFrom b xs room
+  pub write-refused : (xs : List ℕ) (room : ℕ) → refusedList n ≡ writeFrom b xs room
   unfolding writeFrom
-  write-refused xs room n e h = sym (unless-refused refusedList _ n _ (not-fives n e h) (not-fives-refused ss n e))
+  write-refused xs room =
+      let s : refusal (writeFromTests b xs room) ≡ n = one-or-two (anyAboveNine (saidShapes b)) _ _ _ (notFives b .fails) _ refused ∙ sym (e ∙ list-number b) in
+      sym (unless-refused refusedList (refusal (writeFromTests b xs room)) n (listed (sheetBytes (sheetFrom b xs))) (sym s) h)
 
-  pub write-done : (xs : List ℕ) (room : ℕ) → length b % 5 ≡ 0 → writeSheet ss xs room ≡ writeFrom b xs room
-  unfolding writeFrom writeSheet
-  write-done xs room h = rw (fives h, ← said) (sym (tried-again refusedList _ _ _))
-
-  pub value-refused : (i n : ℕ) → NotFives ss n → (length b % 5 ≡ 0 → ⊥) → refusedPlace n ≡ valueFrom b i
+  pub value-refused : (i : ℕ) → refusedPlace n ≡ valueFrom b i
   unfolding valueFrom
-  value-refused i n e h = sym (unless-refused refusedPlace _ n _ (not-fives n e h) (not-fives-refused ss n e))
+  value-refused i =
+      let s : refusal (valueFromTests b i) ≡ n = first-or-two (anyAboveNine (saidShapes b)) _ _ (notFives b .fails) (above-take 64 (saidShapes b)) refused ∙ sym (e ∙ list-number b) in
+      sym (unless-refused refusedPlace (refusal (valueFromTests b i)) n (placedAt (firstShapes b) i) (sym s) h)
 
-  pub value-done : (i : ℕ) → length b % 5 ≡ 0 → valueAt ss i ≡ valueFrom b i
-  unfolding valueFrom valueAt
-  value-done i h = rw (fives h, ← said) (sym (tried-again refusedPlace _ _ _))
+-- ---- a list that is not: the record that is made of it is handed on
+
+module _ (b : List ℕ) (e : refusal (listTests b) ≡ 0) where
+  small : anyAboveNine (saidShapes b) ≡ false
+  small = past (aboveNine (saidShapes b)) _ (λ q. omega arith) e .0
+
+  fives : notFives b .fails ≡ false
+  fives = past (notFives b) [] (λ q. omega arith) (past (aboveNine (saidShapes b)) _ (λ q. omega arith) e .1) .0
+
+  pub value-done : (i : ℕ) → valueAt (shapesOf (saidShapes b)) i ≡ valueFrom b i
+  unfolding valueAt valueFrom
+  value-done i =
+      ap (λ (ss : List Shape). unless refusedPlace (refusal (valueTests ss i)) (placedAt ss i)) (listed-first (saidShapes b))
+      ∙ ap (λ (k : ℕ). unless refusedPlace k (placedAt (firstShapes b) i)) (sym (refused-later _ _ small ∙ rest-same (valueTests (firstShapes b) i) (notFives b ∷ []) [] (λ q. refused-later (notFives b) [] fives)))
+
+  -- Of no more than 64 shapes all are listed.
+  few-written : (xs : List ℕ) (room : ℕ) → length (saidShapes b) ≤ 64 → writeSheet (shapesOf (saidShapes b)) xs room ≡ writeFrom b xs room
+  unfolding writeSheet writeFrom
+  few-written xs room h =
+      let ss = saidShapes b in
+      ap (λ (l : List Shape). unless refusedList (refusal (limits (length ss) l (length xs) ++ (noRoom room (length (sheetBytes (record { shapes = l; patterns = xs }))) ∷ []))) (listed (sheetBytes (record { shapes = l; patterns = xs })))) (listed-shapesOf ss h)
+      ∙ ap (λ (k : ℕ). unless refusedList k (listed (sheetBytes (sheetFrom b xs)))) (rest-same (limits (length ss) ss (length xs)) _ _ (λ q. sym (refused-later (notFives b) _ fives)))
+
+  -- More are refused with 2.
+  many-refused : (xs : List ℕ) (room : ℕ) → 64 < length (saidShapes b) → writeSheet (shapesOf (saidShapes b)) xs room ≡ writeFrom b xs room
+  unfolding writeSheet writeFrom refusal unless
+  many-refused xs room h =
+      rw (listed-first (saidShapes b), above-take 64 (saidShapes b) small, small, lt-ltb 64 (length (saidShapes b)) h)
+
+  pub write-done : (xs : List ℕ) (room : ℕ) → writeSheet (shapesOf (saidShapes b)) xs room ≡ writeFrom b xs room
+  write-done xs room =
+      ⊎-elim (many-refused xs room) (few-written xs room) (split 64 (length (saidShapes b)))
 
 -- ---- a sheet that is read
 
@@ -105,13 +134,13 @@ shapes-stand s =
     ∙ ap (take (5 * length (s .shapes))) (drop-at n (a ++ r) 2 (littleEndian-length 2 (length (s .shapes))))
     ∙ take-at a r (5 * length (s .shapes)) (allBytes-length shapeBytes 5 shapeBytes-length (s .shapes)))
 
--- What is read of bytes is told; where it is a sheet, the bytes are that sheet's, so its shapes stand in them.
-pub sheet-told : {b : List ℕ} {a : SheetRead} {r : ℕ} {before after held holds : List ℕ} → Reads (readSheet b (length before)) a before after → TellsCounts a r held holds → TellsSheet (readSheet b (length before)) b r before after held holds
-sheet-told {b} {a} {r} {before} {after} {held} {holds} g told =
+-- What is read of bytes is reported; where it is a sheet, the bytes are that sheet's, so its shapes stand in them.
+pub sheet-reported : {b : List ℕ} {a : SheetRead} {r : ℕ} {before after held holds : List ℕ} → Reads (readSheet b (length before)) a before after → ReportsCounts a r held holds → ReportsSheet (readSheet b (length before)) b r before after held holds
+sheet-reported {b} {a} {r} {before} {after} {held} {holds} g reported =
     let o = readSheet b (length before) in
-    let done : r ≡ 0 → o .number ≡ 0 = λ z. sym (ap (λ (s : SheetRead). s .number) (g .answered)) ∙ sym (told .returned) ∙ z in
+    let done : r ≡ 0 → o .number ≡ 0 = λ z. sym (ap (λ (s : SheetRead). s .number) (g .answered)) ∙ sym (reported .returned) ∙ z in
     record {
-      tells = subst (λ (s : SheetRead). TellsCounts s r held holds) (g .answered) told;
+      reports = subst (λ (s : SheetRead). ReportsCounts s r held holds) (g .answered) reported;
       standing = λ z. shapes-stand (o .sheet) ∙ ap (λ (l : List ℕ). take (5 * length (o .sheet .shapes)) (drop 2 l)) (sym (sound b (length before) (done z) .1));
       left = g .left;
     }

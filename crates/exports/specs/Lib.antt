@@ -1,4 +1,5 @@
 -- The definitions that the contracts of `exports` cite.
 pub mod Numbers
-pub mod Told
-pub mod Parts
+pub mod Reports
+pub mod Order
+pub mod Sheet

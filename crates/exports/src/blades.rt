@@ -1,7 +1,7 @@
 // Single blades, and single grades.
 use super::numbers::shape_from;
-use super::tell::tell;
-use super::tell::tell_number;
+use super::report::report;
+use super::report::report_number;
 use masks::order::grade_size;
 use masks::outcome::DONE;
 ghost use mathlib.Core.Path.{_≡_};
@@ -11,7 +11,7 @@ ghost use lib.ListN.{length};
 ghost use Rattle.masks.specs.Order.{start, size};
 ghost use Rattle.masks.specs.Blade.{getBlade, setBlade, gradeRefusal};
 ghost use Rattle.exports.specs.Numbers.{shaped};
-ghost use Rattle.exports.specs.Told.{Tells, TellsNumber, TellsValue};
+ghost use Rattle.exports.specs.Reports.{Reports, ReportsNumber, ReportsValue};
 
 // The size of a grade of dims that are at most 9.
 fn size_of(dims: u8, grade: u8) -> usize
@@ -48,9 +48,9 @@ pub extern "C" fn thresholm_get_blade(
     a: &[f64],
     to_value: &mut f64,
 ) -> u8
-    ensures { λ r. ⌜ TellsNumber (getBlade (shaped dims kind p n z) mask (now (a .entry))) r (now («to_value» .entry)) (now («to_value» .exit)) ⌝ }
+    ensures { λ r. ⌜ ReportsNumber (getBlade (shaped dims kind p n z) mask (now (a .entry))) r (now («to_value» .entry)) (now («to_value» .exit)) ⌝ }
 {
-    tell_number(shape_from(dims, kind, p, n, z).get_blade(mask, a), to_value)
+    report_number(shape_from(dims, kind, p, n, z).get_blade(mask, a), to_value)
 }
 
 // The value with x at a mask, grown where the mask is outside.
@@ -71,10 +71,10 @@ pub extern "C" fn thresholm_set_blade(
     to_n: &mut u8,
     to_z: &mut u8,
 ) -> u8
-    ensures { λ r. ⌜ TellsValue (setBlade (shaped dims kind p n z) mask x (now (a .entry)) (length (now (out .entry)))) r (now (out .entry)) (now (out .exit)) (now («to_dims» .entry) ∷ now («to_kind» .entry) ∷ now («to_p» .entry) ∷ now («to_n» .entry) ∷ now («to_z» .entry) ∷ []) (now («to_dims» .exit) ∷ now («to_kind» .exit) ∷ now («to_p» .exit) ∷ now («to_n» .exit) ∷ now («to_z» .exit) ∷ []) ⌝ }
+    ensures { λ r. ⌜ ReportsValue (setBlade (shaped dims kind p n z) mask x (now (a .entry)) (length (now (out .entry)))) r (now (out .entry)) (now (out .exit)) (now («to_dims» .entry) ∷ now («to_kind» .entry) ∷ now («to_p» .entry) ∷ now («to_n» .entry) ∷ now («to_z» .entry) ∷ []) (now («to_dims» .exit) ∷ now («to_kind» .exit) ∷ now («to_p» .exit) ∷ now («to_n» .exit) ∷ now («to_z» .exit) ∷ []) ⌝ }
 {
     let answer = shape_from(dims, kind, p, n, z).set_blade(mask, x, a, out);
-    tell(answer, to_dims, to_kind, to_p, to_n, to_z)
+    report(answer, to_dims, to_kind, to_p, to_n, to_z)
 }
 
 // The number that a grade is refused with, or 0.
@@ -107,7 +107,7 @@ pub extern "C" fn thresholm_grade(
     to_start: &mut usize,
     to_count: &mut usize,
 ) -> u8
-    ensures { λ r. ⌜ Tells (gradeRefusal (shaped dims kind p n z) grade (now (a .entry))) (start dims grade ∷ size dims grade ∷ []) r (now («to_start» .entry) ∷ now («to_count» .entry) ∷ []) (now («to_start» .exit) ∷ now («to_count» .exit) ∷ []) ⌝ }
+    ensures { λ r. ⌜ Reports (gradeRefusal (shaped dims kind p n z) grade (now (a .entry))) (start dims grade ∷ size dims grade ∷ []) r (now («to_start» .entry) ∷ now («to_count» .entry) ∷ []) (now («to_start» .exit) ∷ now («to_count» .exit) ∷ []) ⌝ }
 {
     let number = shape_from(dims, kind, p, n, z).grade_refusal(grade, a);
     if number != DONE {

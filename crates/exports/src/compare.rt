@@ -1,12 +1,12 @@
 // Equality and order, as the Rust has them.
 use super::numbers::shape_from;
-use super::tell::tell_order;
-use super::tell::tell_yes;
+use super::report::report_order;
+use super::report::report_yes;
 use arithmetic::compare::cmp;
 use arithmetic::compare::eq;
 ghost use Rattle.arithmetic.specs.Compare.{equals, compared};
 ghost use Rattle.exports.specs.Numbers.{shaped};
-ghost use Rattle.exports.specs.Told.{TellsYesNo, TellsOrder};
+ghost use Rattle.exports.specs.Reports.{ReportsYesNo, ReportsOrder};
 
 // The Rust's ==: any two values that are not scalar are equal.
 #[no_mangle]
@@ -25,9 +25,9 @@ pub extern "C" fn thresholm_eq(
     b: &[f64],
     to_yes: &mut u8,
 ) -> u8
-    ensures { λ r. ⌜ TellsYesNo (equals (shaped dims kind p n z) (shaped «dims_right» «kind_right» «p_right» «n_right» «z_right») (now (a .entry)) (now (b .entry))) r (now («to_yes» .entry)) (now («to_yes» .exit)) ⌝ }
+    ensures { λ r. ⌜ ReportsYesNo (equals (shaped dims kind p n z) (shaped «dims_right» «kind_right» «p_right» «n_right» «z_right») (now (a .entry)) (now (b .entry))) r (now («to_yes» .entry)) (now («to_yes» .exit)) ⌝ }
 {
-    tell_yes(
+    report_yes(
         eq(
             shape_from(dims, kind, p, n, z),
             shape_from(dims_right, kind_right, p_right, n_right, z_right),
@@ -55,9 +55,9 @@ pub extern "C" fn thresholm_cmp(
     b: &[f64],
     to_order: &mut i8,
 ) -> u8
-    ensures { λ r. ⌜ TellsOrder (compared (shaped dims kind p n z) (shaped «dims_right» «kind_right» «p_right» «n_right» «z_right») (now (a .entry)) (now (b .entry))) r (now («to_order» .entry)) (now («to_order» .exit)) ⌝ }
+    ensures { λ r. ⌜ ReportsOrder (compared (shaped dims kind p n z) (shaped «dims_right» «kind_right» «p_right» «n_right» «z_right») (now (a .entry)) (now (b .entry))) r (now («to_order» .entry)) (now («to_order» .exit)) ⌝ }
 {
-    tell_order(
+    report_order(
         cmp(
             shape_from(dims, kind, p, n, z),
             shape_from(dims_right, kind_right, p_right, n_right, z_right),

@@ -1,12 +1,12 @@
 // Flavors, and their text.
-use super::numbers::flavor_from;
 use super::numbers::metric_number;
-use super::tell::tell_count;
-use super::tell::tell_flavor;
-use super::tell::tell_read;
+use super::report::report_count;
+use super::report::report_flavor;
+use super::report::report_read;
 use masks::flavor::Flavor;
 use masks::flavor::null_flavor;
 use masks::shape::promotion;
+use sheets::read::flavor_from;
 ghost use mathlib.Core.Path.{_≡_};
 ghost use mathlib.Core.List.{[], _∷_};
 ghost use lib.ListN.{length};
@@ -15,7 +15,7 @@ ghost use Rattle.masks.specs.Shape.{promotes};
 ghost use Rattle.masks.specs.Text.{readFlavor, writeFlavor};
 ghost use Rattle.sheets.specs.Format.{flavorBytes};
 ghost use Rattle.sheets.specs.Read.{flavorFrom};
-ghost use Rattle.exports.specs.Told.{TellsFlavor, TellsList};
+ghost use Rattle.exports.specs.Reports.{ReportsFlavor, ReportsList};
 
 // What the basis vector of an index squares to.
 #[no_mangle]
@@ -35,7 +35,7 @@ pub extern "C" fn thresholm_null_flavor(
 )
     ensures { λ _. ⌜ (now («to_kind» .exit) ∷ now («to_p» .exit) ∷ now («to_n» .exit) ∷ now («to_z» .exit) ∷ []) ≡ flavorBytes nullFlavor ⌝ }
 {
-    tell_flavor(null_flavor(), to_kind, to_p, to_n, to_z);
+    report_flavor(null_flavor(), to_kind, to_p, to_n, to_z);
 }
 
 // The dimensions that a flavor adds to those that are stated.
@@ -75,9 +75,9 @@ pub extern "C" fn thresholm_try_from_str(
     to_n: &mut u8,
     to_z: &mut u8,
 ) -> u8
-    ensures { λ r. ⌜ TellsFlavor (readFlavor (now (t .entry))) r (now («to_kind» .entry) ∷ now («to_p» .entry) ∷ now («to_n» .entry) ∷ now («to_z» .entry) ∷ []) (now («to_kind» .exit) ∷ now («to_p» .exit) ∷ now («to_n» .exit) ∷ now («to_z» .exit) ∷ []) ⌝ }
+    ensures { λ r. ⌜ ReportsFlavor (readFlavor (now (t .entry))) r (now («to_kind» .entry) ∷ now («to_p» .entry) ∷ now («to_n» .entry) ∷ now («to_z» .entry) ∷ []) (now («to_kind» .exit) ∷ now («to_p» .exit) ∷ now («to_n» .exit) ∷ now («to_z» .exit) ∷ []) ⌝ }
 {
-    tell_read(Flavor::try_from_str(t), to_kind, to_p, to_n, to_z)
+    report_read(Flavor::try_from_str(t), to_kind, to_p, to_n, to_z)
 }
 
 // The text of a flavor, and how many bytes it has.
@@ -90,7 +90,7 @@ pub extern "C" fn thresholm_write_to(
     out: &mut [u8],
     to_count: &mut usize,
 ) -> u8
-    ensures { λ r. ⌜ TellsList (writeFlavor (flavorFrom kind p n z) (length (now (out .entry)))) r (now (out .entry)) (now (out .exit)) (now («to_count» .entry)) (now («to_count» .exit)) ⌝ }
+    ensures { λ r. ⌜ ReportsList (writeFlavor (flavorFrom kind p n z) (length (now (out .entry)))) r (now (out .entry)) (now (out .exit)) (now («to_count» .entry)) (now («to_count» .exit)) ⌝ }
 {
-    tell_count(flavor_from(kind, p, n, z).write_to(out), to_count)
+    report_count(flavor_from(kind, p, n, z).write_to(out), to_count)
 }

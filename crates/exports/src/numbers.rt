@@ -1,25 +1,14 @@
-// Shapes and flavors from numbers, and numbers for what has none.
+// Shapes from numbers, and numbers for what has none.
 use arithmetic::outcome::Ordering;
-use masks::flavor::Flavor;
 use masks::flavor::Metric;
 use masks::outcome::shape_of;
 use masks::shape::Shape;
+use sheets::read::flavor_from;
 ghost use mathlib.Core.Path.{_≡_};
 ghost use Rattle.masks.specs.Flavor.{metricValue};
-ghost use Rattle.sheets.specs.Read.{flavorFrom};
 ghost use Rattle.exports.specs.Numbers.{shaped, yesNumber, orderNumber};
 
-// Kind 0 is Vanilla, 1 Projective, and any other is taken for Cl.
-pub(crate) fn flavor_from(kind: u8, p: u8, n: u8, z: u8) -> Flavor
-    ensures { λ r. ⌜ r ≡ flavorFrom kind p n z ⌝ }
-{
-    match kind {
-        0 => Flavor::Vanilla,
-        1 => Flavor::Projective,
-        _ => Flavor::Cl(p, n, z),
-    }
-}
-
+// The shape that five numbers say.
 pub(crate) fn shape_from(dims: u8, kind: u8, p: u8, n: u8, z: u8) -> Shape
     ensures { λ r. ⌜ r ≡ shaped dims kind p n z ⌝ }
 {

@@ -1,6 +1,6 @@
 // Operators.
 use super::numbers::shape_from;
-use super::tell::tell;
+use super::report::report;
 use arithmetic::operators::add;
 use arithmetic::operators::mul;
 use arithmetic::operators::sub;
@@ -15,7 +15,7 @@ ghost use Rattle.arithmetic.specs.Operators.{multiplication, addition};
 ghost use Rattle.arithmetic.specs.Quotient.{quotient};
 ghost use Rattle.arithmetic.specs.Scale.{mulF64, divF64, negation};
 ghost use Rattle.exports.specs.Numbers.{shaped};
-ghost use Rattle.exports.specs.Told.{TellsValue};
+ghost use Rattle.exports.specs.Reports.{ReportsValue};
 
 // `*` of two values.
 #[no_mangle]
@@ -39,7 +39,7 @@ pub extern "C" fn thresholm_mul(
     to_n: &mut u8,
     to_z: &mut u8,
 ) -> u8
-    ensures { λ r. ⌜ TellsValue (multiplication (shaped dims kind p n z) (shaped «dims_right» «kind_right» «p_right» «n_right» «z_right») (now (a .entry)) (now (b .entry)) (length (now (out .entry)))) r (now (out .entry)) (now (out .exit)) (now («to_dims» .entry) ∷ now («to_kind» .entry) ∷ now («to_p» .entry) ∷ now («to_n» .entry) ∷ now («to_z» .entry) ∷ []) (now («to_dims» .exit) ∷ now («to_kind» .exit) ∷ now («to_p» .exit) ∷ now («to_n» .exit) ∷ now («to_z» .exit) ∷ []) ⌝ }
+    ensures { λ r. ⌜ ReportsValue (multiplication (shaped dims kind p n z) (shaped «dims_right» «kind_right» «p_right» «n_right» «z_right») (now (a .entry)) (now (b .entry)) (length (now (out .entry)))) r (now (out .entry)) (now (out .exit)) (now («to_dims» .entry) ∷ now («to_kind» .entry) ∷ now («to_p» .entry) ∷ now («to_n» .entry) ∷ now («to_z» .entry) ∷ []) (now («to_dims» .exit) ∷ now («to_kind» .exit) ∷ now («to_p» .exit) ∷ now («to_n» .exit) ∷ now («to_z» .exit) ∷ []) ⌝ }
 {
     let answer = mul(
         shape_from(dims, kind, p, n, z),
@@ -48,7 +48,7 @@ pub extern "C" fn thresholm_mul(
         b,
         out,
     );
-    tell(answer, to_dims, to_kind, to_p, to_n, to_z)
+    report(answer, to_dims, to_kind, to_p, to_n, to_z)
 }
 
 // `+` of two values.
@@ -73,7 +73,7 @@ pub extern "C" fn thresholm_add(
     to_n: &mut u8,
     to_z: &mut u8,
 ) -> u8
-    ensures { λ r. ⌜ TellsValue (addition Plus (shaped dims kind p n z) (shaped «dims_right» «kind_right» «p_right» «n_right» «z_right») (now (a .entry)) (now (b .entry)) (length (now (out .entry)))) r (now (out .entry)) (now (out .exit)) (now («to_dims» .entry) ∷ now («to_kind» .entry) ∷ now («to_p» .entry) ∷ now («to_n» .entry) ∷ now («to_z» .entry) ∷ []) (now («to_dims» .exit) ∷ now («to_kind» .exit) ∷ now («to_p» .exit) ∷ now («to_n» .exit) ∷ now («to_z» .exit) ∷ []) ⌝ }
+    ensures { λ r. ⌜ ReportsValue (addition Plus (shaped dims kind p n z) (shaped «dims_right» «kind_right» «p_right» «n_right» «z_right») (now (a .entry)) (now (b .entry)) (length (now (out .entry)))) r (now (out .entry)) (now (out .exit)) (now («to_dims» .entry) ∷ now («to_kind» .entry) ∷ now («to_p» .entry) ∷ now («to_n» .entry) ∷ now («to_z» .entry) ∷ []) (now («to_dims» .exit) ∷ now («to_kind» .exit) ∷ now («to_p» .exit) ∷ now («to_n» .exit) ∷ now («to_z» .exit) ∷ []) ⌝ }
 {
     let answer = add(
         shape_from(dims, kind, p, n, z),
@@ -82,7 +82,7 @@ pub extern "C" fn thresholm_add(
         b,
         out,
     );
-    tell(answer, to_dims, to_kind, to_p, to_n, to_z)
+    report(answer, to_dims, to_kind, to_p, to_n, to_z)
 }
 
 // `-` of two values.
@@ -107,7 +107,7 @@ pub extern "C" fn thresholm_sub(
     to_n: &mut u8,
     to_z: &mut u8,
 ) -> u8
-    ensures { λ r. ⌜ TellsValue (addition Minus (shaped dims kind p n z) (shaped «dims_right» «kind_right» «p_right» «n_right» «z_right») (now (a .entry)) (now (b .entry)) (length (now (out .entry)))) r (now (out .entry)) (now (out .exit)) (now («to_dims» .entry) ∷ now («to_kind» .entry) ∷ now («to_p» .entry) ∷ now («to_n» .entry) ∷ now («to_z» .entry) ∷ []) (now («to_dims» .exit) ∷ now («to_kind» .exit) ∷ now («to_p» .exit) ∷ now («to_n» .exit) ∷ now («to_z» .exit) ∷ []) ⌝ }
+    ensures { λ r. ⌜ ReportsValue (addition Minus (shaped dims kind p n z) (shaped «dims_right» «kind_right» «p_right» «n_right» «z_right») (now (a .entry)) (now (b .entry)) (length (now (out .entry)))) r (now (out .entry)) (now (out .exit)) (now («to_dims» .entry) ∷ now («to_kind» .entry) ∷ now («to_p» .entry) ∷ now («to_n» .entry) ∷ now («to_z» .entry) ∷ []) (now («to_dims» .exit) ∷ now («to_kind» .exit) ∷ now («to_p» .exit) ∷ now («to_n» .exit) ∷ now («to_z» .exit) ∷ []) ⌝ }
 {
     let answer = sub(
         shape_from(dims, kind, p, n, z),
@@ -116,7 +116,7 @@ pub extern "C" fn thresholm_sub(
         b,
         out,
     );
-    tell(answer, to_dims, to_kind, to_p, to_n, to_z)
+    report(answer, to_dims, to_kind, to_p, to_n, to_z)
 }
 
 // `/` of two values.
@@ -141,7 +141,7 @@ pub extern "C" fn thresholm_div(
     to_n: &mut u8,
     to_z: &mut u8,
 ) -> u8
-    ensures { λ r. ⌜ TellsValue (quotient (shaped dims kind p n z) (shaped «dims_right» «kind_right» «p_right» «n_right» «z_right») (now (a .entry)) (now (b .entry)) (length (now (out .entry)))) r (now (out .entry)) (now (out .exit)) (now («to_dims» .entry) ∷ now («to_kind» .entry) ∷ now («to_p» .entry) ∷ now («to_n» .entry) ∷ now («to_z» .entry) ∷ []) (now («to_dims» .exit) ∷ now («to_kind» .exit) ∷ now («to_p» .exit) ∷ now («to_n» .exit) ∷ now («to_z» .exit) ∷ []) ⌝ }
+    ensures { λ r. ⌜ ReportsValue (quotient (shaped dims kind p n z) (shaped «dims_right» «kind_right» «p_right» «n_right» «z_right») (now (a .entry)) (now (b .entry)) (length (now (out .entry)))) r (now (out .entry)) (now (out .exit)) (now («to_dims» .entry) ∷ now («to_kind» .entry) ∷ now («to_p» .entry) ∷ now («to_n» .entry) ∷ now («to_z» .entry) ∷ []) (now («to_dims» .exit) ∷ now («to_kind» .exit) ∷ now («to_p» .exit) ∷ now («to_n» .exit) ∷ now («to_z» .exit) ∷ []) ⌝ }
 {
     let answer = div(
         shape_from(dims, kind, p, n, z),
@@ -150,7 +150,7 @@ pub extern "C" fn thresholm_div(
         b,
         out,
     );
-    tell(answer, to_dims, to_kind, to_p, to_n, to_z)
+    report(answer, to_dims, to_kind, to_p, to_n, to_z)
 }
 
 // A value times a number.
@@ -170,10 +170,10 @@ pub extern "C" fn thresholm_mul_f64(
     to_n: &mut u8,
     to_z: &mut u8,
 ) -> u8
-    ensures { λ r. ⌜ TellsValue (mulF64 (shaped dims kind p n z) f (now (a .entry)) (length (now (out .entry)))) r (now (out .entry)) (now (out .exit)) (now («to_dims» .entry) ∷ now («to_kind» .entry) ∷ now («to_p» .entry) ∷ now («to_n» .entry) ∷ now («to_z» .entry) ∷ []) (now («to_dims» .exit) ∷ now («to_kind» .exit) ∷ now («to_p» .exit) ∷ now («to_n» .exit) ∷ now («to_z» .exit) ∷ []) ⌝ }
+    ensures { λ r. ⌜ ReportsValue (mulF64 (shaped dims kind p n z) f (now (a .entry)) (length (now (out .entry)))) r (now (out .entry)) (now (out .exit)) (now («to_dims» .entry) ∷ now («to_kind» .entry) ∷ now («to_p» .entry) ∷ now («to_n» .entry) ∷ now («to_z» .entry) ∷ []) (now («to_dims» .exit) ∷ now («to_kind» .exit) ∷ now («to_p» .exit) ∷ now («to_n» .exit) ∷ now («to_z» .exit) ∷ []) ⌝ }
 {
     let answer = mul_f64(shape_from(dims, kind, p, n, z), f, a, out);
-    tell(answer, to_dims, to_kind, to_p, to_n, to_z)
+    report(answer, to_dims, to_kind, to_p, to_n, to_z)
 }
 
 // A value over a number.
@@ -193,10 +193,10 @@ pub extern "C" fn thresholm_div_f64(
     to_n: &mut u8,
     to_z: &mut u8,
 ) -> u8
-    ensures { λ r. ⌜ TellsValue (divF64 (shaped dims kind p n z) f (now (a .entry)) (length (now (out .entry)))) r (now (out .entry)) (now (out .exit)) (now («to_dims» .entry) ∷ now («to_kind» .entry) ∷ now («to_p» .entry) ∷ now («to_n» .entry) ∷ now («to_z» .entry) ∷ []) (now («to_dims» .exit) ∷ now («to_kind» .exit) ∷ now («to_p» .exit) ∷ now («to_n» .exit) ∷ now («to_z» .exit) ∷ []) ⌝ }
+    ensures { λ r. ⌜ ReportsValue (divF64 (shaped dims kind p n z) f (now (a .entry)) (length (now (out .entry)))) r (now (out .entry)) (now (out .exit)) (now («to_dims» .entry) ∷ now («to_kind» .entry) ∷ now («to_p» .entry) ∷ now («to_n» .entry) ∷ now («to_z» .entry) ∷ []) (now («to_dims» .exit) ∷ now («to_kind» .exit) ∷ now («to_p» .exit) ∷ now («to_n» .exit) ∷ now («to_z» .exit) ∷ []) ⌝ }
 {
     let answer = div_f64(shape_from(dims, kind, p, n, z), f, a, out);
-    tell(answer, to_dims, to_kind, to_p, to_n, to_z)
+    report(answer, to_dims, to_kind, to_p, to_n, to_z)
 }
 
 // A value negated.
@@ -215,8 +215,8 @@ pub extern "C" fn thresholm_neg(
     to_n: &mut u8,
     to_z: &mut u8,
 ) -> u8
-    ensures { λ r. ⌜ TellsValue (negation (shaped dims kind p n z) (now (a .entry)) (length (now (out .entry)))) r (now (out .entry)) (now (out .exit)) (now («to_dims» .entry) ∷ now («to_kind» .entry) ∷ now («to_p» .entry) ∷ now («to_n» .entry) ∷ now («to_z» .entry) ∷ []) (now («to_dims» .exit) ∷ now («to_kind» .exit) ∷ now («to_p» .exit) ∷ now («to_n» .exit) ∷ now («to_z» .exit) ∷ []) ⌝ }
+    ensures { λ r. ⌜ ReportsValue (negation (shaped dims kind p n z) (now (a .entry)) (length (now (out .entry)))) r (now (out .entry)) (now (out .exit)) (now («to_dims» .entry) ∷ now («to_kind» .entry) ∷ now («to_p» .entry) ∷ now («to_n» .entry) ∷ now («to_z» .entry) ∷ []) (now («to_dims» .exit) ∷ now («to_kind» .exit) ∷ now («to_p» .exit) ∷ now («to_n» .exit) ∷ now («to_z» .exit) ∷ []) ⌝ }
 {
     let answer = neg(shape_from(dims, kind, p, n, z), a, out);
-    tell(answer, to_dims, to_kind, to_p, to_n, to_z)
+    report(answer, to_dims, to_kind, to_p, to_n, to_z)
 }

@@ -1,5 +1,5 @@
 // The order of masks, and the sizes of grades.
-use super::tell::tell_count;
+use super::report::report_count;
 use masks::order::blade_count;
 use masks::order::grade_size;
 use masks::order::order_of;
@@ -10,8 +10,8 @@ ghost use Prim.Native.Nat.{_≤_};
 ghost use lib.ListN.{length, take};
 ghost use Rattle.masks.specs.Outcome.{laid};
 ghost use Rattle.masks.specs.Order.{bladeCount, gradeSize};
-ghost use Rattle.exports.specs.Told.{TellsCount};
-ghost use Rattle.exports.specs.Parts.{TellsOrderOf};
+ghost use Rattle.exports.specs.Reports.{ReportsCount};
+ghost use Rattle.exports.specs.Order.{ReportsOrderOf};
 
 // The first n of an array's masks or places, from the front of an output.
 fn copy_masks(from: &[u16; 512], n: usize, to: &mut [u16])
@@ -36,9 +36,9 @@ pub extern "C" fn thresholm_blade_count(dims: u8) -> usize
 // The size of a grade: 0 for a grade above the dimensions.
 #[no_mangle]
 pub extern "C" fn thresholm_grade_size(dims: u8, grade: u8, to_count: &mut usize) -> u8
-    ensures { λ r. ⌜ TellsCount (gradeSize dims grade) r (now («to_count» .entry)) (now («to_count» .exit)) ⌝ }
+    ensures { λ r. ⌜ ReportsCount (gradeSize dims grade) r (now («to_count» .entry)) (now («to_count» .exit)) ⌝ }
 {
-    tell_count(grade_size(dims, grade), to_count)
+    report_count(grade_size(dims, grade), to_count)
 }
 
 // The order of `dims` dimensions and the place of each mask in it, that of none where they are above 9, and how many there are.
@@ -49,7 +49,7 @@ pub extern "C" fn thresholm_order_of(
     places: &mut [u16],
     to_count: &mut usize,
 ) -> u8
-    ensures { λ r. ⌜ TellsOrderOf dims r (now (masks .entry)) (now (masks .exit)) (now (places .entry)) (now (places .exit)) (now («to_count» .entry)) (now («to_count» .exit)) ⌝ }
+    ensures { λ r. ⌜ ReportsOrderOf dims r (now (masks .entry)) (now (masks .exit)) (now (places .entry)) (now (places .exit)) (now («to_count» .entry)) (now («to_count» .exit)) ⌝ }
 {
     let given = order_of(dims);
     let order = given.order;

@@ -1,6 +1,6 @@
 // The five products.
 use super::numbers::shape_from;
-use super::tell::tell_product;
+use super::report::report_product;
 use product::products::general_product;
 use product::products::inner_product;
 use product::products::left_contraction;
@@ -10,7 +10,7 @@ ghost use mathlib.Core.List.{[], _∷_};
 ghost use lib.ListN.{length};
 ghost use Rattle.product.specs.Products.{generalProduct, leftContraction, rightContraction, innerProduct, outerProduct};
 ghost use Rattle.exports.specs.Numbers.{shaped};
-ghost use Rattle.exports.specs.Told.{TellsProduct};
+ghost use Rattle.exports.specs.Reports.{ReportsProduct};
 
 // The general product: all pairs.
 #[no_mangle]
@@ -35,7 +35,7 @@ pub extern "C" fn thresholm_general_product(
     to_z: &mut u8,
     to_pairs: &mut u32,
 ) -> u8
-    ensures { λ r. ⌜ TellsProduct (generalProduct (shaped dims kind p n z) (shaped «dims_right» «kind_right» «p_right» «n_right» «z_right») (now (a .entry)) (now (b .entry)) (length (now (out .entry)))) r (now (out .entry)) (now (out .exit)) (now («to_dims» .entry) ∷ now («to_kind» .entry) ∷ now («to_p» .entry) ∷ now («to_n» .entry) ∷ now («to_z» .entry) ∷ now («to_pairs» .entry) ∷ []) (now («to_dims» .exit) ∷ now («to_kind» .exit) ∷ now («to_p» .exit) ∷ now («to_n» .exit) ∷ now («to_z» .exit) ∷ now («to_pairs» .exit) ∷ []) ⌝ }
+    ensures { λ r. ⌜ ReportsProduct (generalProduct (shaped dims kind p n z) (shaped «dims_right» «kind_right» «p_right» «n_right» «z_right») (now (a .entry)) (now (b .entry)) (length (now (out .entry)))) r (now (out .entry)) (now (out .exit)) (now («to_dims» .entry) ∷ now («to_kind» .entry) ∷ now («to_p» .entry) ∷ now («to_n» .entry) ∷ now («to_z» .entry) ∷ now («to_pairs» .entry) ∷ []) (now («to_dims» .exit) ∷ now («to_kind» .exit) ∷ now («to_p» .exit) ∷ now («to_n» .exit) ∷ now («to_z» .exit) ∷ now («to_pairs» .exit) ∷ []) ⌝ }
 {
     let product = general_product(
         shape_from(dims, kind, p, n, z),
@@ -44,7 +44,7 @@ pub extern "C" fn thresholm_general_product(
         b,
         out,
     );
-    tell_product(product, to_dims, to_kind, to_p, to_n, to_z, to_pairs)
+    report_product(product, to_dims, to_kind, to_p, to_n, to_z, to_pairs)
 }
 
 // The left contraction: a within b.
@@ -70,7 +70,7 @@ pub extern "C" fn thresholm_left_contraction(
     to_z: &mut u8,
     to_pairs: &mut u32,
 ) -> u8
-    ensures { λ r. ⌜ TellsProduct (leftContraction (shaped dims kind p n z) (shaped «dims_right» «kind_right» «p_right» «n_right» «z_right») (now (a .entry)) (now (b .entry)) (length (now (out .entry)))) r (now (out .entry)) (now (out .exit)) (now («to_dims» .entry) ∷ now («to_kind» .entry) ∷ now («to_p» .entry) ∷ now («to_n» .entry) ∷ now («to_z» .entry) ∷ now («to_pairs» .entry) ∷ []) (now («to_dims» .exit) ∷ now («to_kind» .exit) ∷ now («to_p» .exit) ∷ now («to_n» .exit) ∷ now («to_z» .exit) ∷ now («to_pairs» .exit) ∷ []) ⌝ }
+    ensures { λ r. ⌜ ReportsProduct (leftContraction (shaped dims kind p n z) (shaped «dims_right» «kind_right» «p_right» «n_right» «z_right») (now (a .entry)) (now (b .entry)) (length (now (out .entry)))) r (now (out .entry)) (now (out .exit)) (now («to_dims» .entry) ∷ now («to_kind» .entry) ∷ now («to_p» .entry) ∷ now («to_n» .entry) ∷ now («to_z» .entry) ∷ now («to_pairs» .entry) ∷ []) (now («to_dims» .exit) ∷ now («to_kind» .exit) ∷ now («to_p» .exit) ∷ now («to_n» .exit) ∷ now («to_z» .exit) ∷ now («to_pairs» .exit) ∷ []) ⌝ }
 {
     let product = left_contraction(
         shape_from(dims, kind, p, n, z),
@@ -79,7 +79,7 @@ pub extern "C" fn thresholm_left_contraction(
         b,
         out,
     );
-    tell_product(product, to_dims, to_kind, to_p, to_n, to_z, to_pairs)
+    report_product(product, to_dims, to_kind, to_p, to_n, to_z, to_pairs)
 }
 
 // The right contraction: b within a.
@@ -105,7 +105,7 @@ pub extern "C" fn thresholm_right_contraction(
     to_z: &mut u8,
     to_pairs: &mut u32,
 ) -> u8
-    ensures { λ r. ⌜ TellsProduct (rightContraction (shaped dims kind p n z) (shaped «dims_right» «kind_right» «p_right» «n_right» «z_right») (now (a .entry)) (now (b .entry)) (length (now (out .entry)))) r (now (out .entry)) (now (out .exit)) (now («to_dims» .entry) ∷ now («to_kind» .entry) ∷ now («to_p» .entry) ∷ now («to_n» .entry) ∷ now («to_z» .entry) ∷ now («to_pairs» .entry) ∷ []) (now («to_dims» .exit) ∷ now («to_kind» .exit) ∷ now («to_p» .exit) ∷ now («to_n» .exit) ∷ now («to_z» .exit) ∷ now («to_pairs» .exit) ∷ []) ⌝ }
+    ensures { λ r. ⌜ ReportsProduct (rightContraction (shaped dims kind p n z) (shaped «dims_right» «kind_right» «p_right» «n_right» «z_right») (now (a .entry)) (now (b .entry)) (length (now (out .entry)))) r (now (out .entry)) (now (out .exit)) (now («to_dims» .entry) ∷ now («to_kind» .entry) ∷ now («to_p» .entry) ∷ now («to_n» .entry) ∷ now («to_z» .entry) ∷ now («to_pairs» .entry) ∷ []) (now («to_dims» .exit) ∷ now («to_kind» .exit) ∷ now («to_p» .exit) ∷ now («to_n» .exit) ∷ now («to_z» .exit) ∷ now («to_pairs» .exit) ∷ []) ⌝ }
 {
     let product = right_contraction(
         shape_from(dims, kind, p, n, z),
@@ -114,7 +114,7 @@ pub extern "C" fn thresholm_right_contraction(
         b,
         out,
     );
-    tell_product(product, to_dims, to_kind, to_p, to_n, to_z, to_pairs)
+    report_product(product, to_dims, to_kind, to_p, to_n, to_z, to_pairs)
 }
 
 // The inner product: either within the other.
@@ -140,7 +140,7 @@ pub extern "C" fn thresholm_inner_product(
     to_z: &mut u8,
     to_pairs: &mut u32,
 ) -> u8
-    ensures { λ r. ⌜ TellsProduct (innerProduct (shaped dims kind p n z) (shaped «dims_right» «kind_right» «p_right» «n_right» «z_right») (now (a .entry)) (now (b .entry)) (length (now (out .entry)))) r (now (out .entry)) (now (out .exit)) (now («to_dims» .entry) ∷ now («to_kind» .entry) ∷ now («to_p» .entry) ∷ now («to_n» .entry) ∷ now («to_z» .entry) ∷ now («to_pairs» .entry) ∷ []) (now («to_dims» .exit) ∷ now («to_kind» .exit) ∷ now («to_p» .exit) ∷ now («to_n» .exit) ∷ now («to_z» .exit) ∷ now («to_pairs» .exit) ∷ []) ⌝ }
+    ensures { λ r. ⌜ ReportsProduct (innerProduct (shaped dims kind p n z) (shaped «dims_right» «kind_right» «p_right» «n_right» «z_right») (now (a .entry)) (now (b .entry)) (length (now (out .entry)))) r (now (out .entry)) (now (out .exit)) (now («to_dims» .entry) ∷ now («to_kind» .entry) ∷ now («to_p» .entry) ∷ now («to_n» .entry) ∷ now («to_z» .entry) ∷ now («to_pairs» .entry) ∷ []) (now («to_dims» .exit) ∷ now («to_kind» .exit) ∷ now («to_p» .exit) ∷ now («to_n» .exit) ∷ now («to_z» .exit) ∷ now («to_pairs» .exit) ∷ []) ⌝ }
 {
     let product = inner_product(
         shape_from(dims, kind, p, n, z),
@@ -149,7 +149,7 @@ pub extern "C" fn thresholm_inner_product(
         b,
         out,
     );
-    tell_product(product, to_dims, to_kind, to_p, to_n, to_z, to_pairs)
+    report_product(product, to_dims, to_kind, to_p, to_n, to_z, to_pairs)
 }
 
 // The outer product: all pairs, under `Flavor::NULL`; the left flavor is kept.
@@ -175,7 +175,7 @@ pub extern "C" fn thresholm_outer_product(
     to_z: &mut u8,
     to_pairs: &mut u32,
 ) -> u8
-    ensures { λ r. ⌜ TellsProduct (outerProduct (shaped dims kind p n z) (shaped «dims_right» «kind_right» «p_right» «n_right» «z_right») (now (a .entry)) (now (b .entry)) (length (now (out .entry)))) r (now (out .entry)) (now (out .exit)) (now («to_dims» .entry) ∷ now («to_kind» .entry) ∷ now («to_p» .entry) ∷ now («to_n» .entry) ∷ now («to_z» .entry) ∷ now («to_pairs» .entry) ∷ []) (now («to_dims» .exit) ∷ now («to_kind» .exit) ∷ now («to_p» .exit) ∷ now («to_n» .exit) ∷ now («to_z» .exit) ∷ now («to_pairs» .exit) ∷ []) ⌝ }
+    ensures { λ r. ⌜ ReportsProduct (outerProduct (shaped dims kind p n z) (shaped «dims_right» «kind_right» «p_right» «n_right» «z_right») (now (a .entry)) (now (b .entry)) (length (now (out .entry)))) r (now (out .entry)) (now (out .exit)) (now («to_dims» .entry) ∷ now («to_kind» .entry) ∷ now («to_p» .entry) ∷ now («to_n» .entry) ∷ now («to_z» .entry) ∷ now («to_pairs» .entry) ∷ []) (now («to_dims» .exit) ∷ now («to_kind» .exit) ∷ now («to_p» .exit) ∷ now («to_n» .exit) ∷ now («to_z» .exit) ∷ now («to_pairs» .exit) ∷ []) ⌝ }
 {
     let product = outer_product(
         shape_from(dims, kind, p, n, z),
@@ -184,5 +184,5 @@ pub extern "C" fn thresholm_outer_product(
         b,
         out,
     );
-    tell_product(product, to_dims, to_kind, to_p, to_n, to_z, to_pairs)
+    report_product(product, to_dims, to_kind, to_p, to_n, to_z, to_pairs)
 }

@@ -1,6 +1,6 @@
 // The refusal numbers, and what a call answers with them.
 use super::numbers::shape_from;
-use super::tell::tell;
+use super::report::report;
 use masks::outcome::done;
 use masks::outcome::pair_refusal;
 use masks::outcome::refusal_of;
@@ -11,7 +11,7 @@ ghost use mathlib.Core.List.{[], _∷_};
 ghost use Prim.Native.Nat.{_^_};
 ghost use Rattle.masks.specs.Outcome.{answerOf, refusedValue, value, refusal, tooMany, wrongCount, noRoom};
 ghost use Rattle.exports.specs.Numbers.{shaped};
-ghost use Rattle.exports.specs.Told.{TellsAnswer};
+ghost use Rattle.exports.specs.Reports.{ReportsAnswer};
 
 // The number that a call is refused with, or 0: its value has `dims` dimensions and `count` numbers, its result stands in
 // `result` dimensions, has `needed` numbers and goes to `room`.
@@ -61,9 +61,9 @@ pub extern "C" fn thresholm_refused(
     to_n: &mut u8,
     to_z: &mut u8,
 ) -> u8
-    ensures { λ r. ⌜ TellsAnswer (answerOf (refusedValue number)) r (now («to_dims» .entry) ∷ now («to_kind» .entry) ∷ now («to_p» .entry) ∷ now («to_n» .entry) ∷ now («to_z» .entry) ∷ []) (now («to_dims» .exit) ∷ now («to_kind» .exit) ∷ now («to_p» .exit) ∷ now («to_n» .exit) ∷ now («to_z» .exit) ∷ []) ⌝ }
+    ensures { λ r. ⌜ ReportsAnswer (answerOf (refusedValue number)) r (now («to_dims» .entry) ∷ now («to_kind» .entry) ∷ now («to_p» .entry) ∷ now («to_n» .entry) ∷ now («to_z» .entry) ∷ []) (now («to_dims» .exit) ∷ now («to_kind» .exit) ∷ now («to_p» .exit) ∷ now («to_n» .exit) ∷ now («to_z» .exit) ∷ []) ⌝ }
 {
-    tell(refused(number), to_dims, to_kind, to_p, to_n, to_z)
+    report(refused(number), to_dims, to_kind, to_p, to_n, to_z)
 }
 
 // The answer of a call that is done.
@@ -80,9 +80,9 @@ pub extern "C" fn thresholm_done(
     to_n: &mut u8,
     to_z: &mut u8,
 ) -> u8
-    ensures { λ r. ⌜ TellsAnswer (answerOf (value (shaped dims kind p n z) [])) r (now («to_dims» .entry) ∷ now («to_kind» .entry) ∷ now («to_p» .entry) ∷ now («to_n» .entry) ∷ now («to_z» .entry) ∷ []) (now («to_dims» .exit) ∷ now («to_kind» .exit) ∷ now («to_p» .exit) ∷ now («to_n» .exit) ∷ now («to_z» .exit) ∷ []) ⌝ }
+    ensures { λ r. ⌜ ReportsAnswer (answerOf (value (shaped dims kind p n z) [])) r (now («to_dims» .entry) ∷ now («to_kind» .entry) ∷ now («to_p» .entry) ∷ now («to_n» .entry) ∷ now («to_z» .entry) ∷ []) (now («to_dims» .exit) ∷ now («to_kind» .exit) ∷ now («to_p» .exit) ∷ now («to_n» .exit) ∷ now («to_z» .exit) ∷ []) ⌝ }
 {
-    tell(
+    report(
         done(shape_from(dims, kind, p, n, z)),
         to_dims,
         to_kind,

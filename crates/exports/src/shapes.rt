@@ -1,9 +1,9 @@
 // Shapes and their changes.
-use super::numbers::flavor_from;
 use super::numbers::shape_from;
-use super::tell::tell;
-use super::tell::tell_both;
-use super::tell::tell_shape;
+use super::report::report;
+use super::report::report_both;
+use super::report::report_shape;
+use sheets::read::flavor_from;
 ghost use mathlib.Core.Path.{_≡_};
 ghost use mathlib.Core.List.{[], _∷_};
 ghost use lib.ListN.{length};
@@ -11,7 +11,7 @@ ghost use Rattle.masks.specs.Shape.{withDims, withFlavor, setDims, setFlavor, c
 ghost use Rattle.sheets.specs.Format.{shapeBytes};
 ghost use Rattle.sheets.specs.Read.{flavorFrom};
 ghost use Rattle.exports.specs.Numbers.{shaped};
-ghost use Rattle.exports.specs.Told.{TellsValue, TellsPair};
+ghost use Rattle.exports.specs.Reports.{ReportsValue, ReportsPair};
 
 // A shape made anew: kind 2 for any above 1, and p, n, z zero unless it is 2.
 #[no_mangle]
@@ -29,7 +29,7 @@ pub extern "C" fn thresholm_shape_of(
 )
     ensures { λ _. ⌜ (now («to_dims» .exit) ∷ now («to_kind» .exit) ∷ now («to_p» .exit) ∷ now («to_n» .exit) ∷ now («to_z» .exit) ∷ []) ≡ shapeBytes (shaped dims kind p n z) ⌝ }
 {
-    tell_shape(
+    report_shape(
         shape_from(dims, kind, p, n, z),
         to_dims,
         to_kind,
@@ -56,7 +56,7 @@ pub extern "C" fn thresholm_with_dims(
 )
     ensures { λ _. ⌜ (now («to_dims» .exit) ∷ now («to_kind» .exit) ∷ now («to_p» .exit) ∷ now («to_n» .exit) ∷ now («to_z» .exit) ∷ []) ≡ shapeBytes (withDims (shaped dims kind p n z) «new_dims») ⌝ }
 {
-    tell_shape(
+    report_shape(
         shape_from(dims, kind, p, n, z).with_dims(new_dims),
         to_dims,
         to_kind,
@@ -86,7 +86,7 @@ pub extern "C" fn thresholm_with_flavor(
 )
     ensures { λ _. ⌜ (now («to_dims» .exit) ∷ now («to_kind» .exit) ∷ now («to_p» .exit) ∷ now («to_n» .exit) ∷ now («to_z» .exit) ∷ []) ≡ shapeBytes (withFlavor (shaped dims kind p n z) (flavorFrom «new_kind» «new_p» «new_n» «new_z»)) ⌝ }
 {
-    tell_shape(
+    report_shape(
         shape_from(dims, kind, p, n, z).with_flavor(flavor_from(new_kind, new_p, new_n, new_z)),
         to_dims,
         to_kind,
@@ -113,10 +113,10 @@ pub extern "C" fn thresholm_set_dims(
     to_n: &mut u8,
     to_z: &mut u8,
 ) -> u8
-    ensures { λ r. ⌜ TellsValue (setDims (shaped dims kind p n z) «new_dims» (now (a .entry)) (length (now (out .entry)))) r (now (out .entry)) (now (out .exit)) (now («to_dims» .entry) ∷ now («to_kind» .entry) ∷ now («to_p» .entry) ∷ now («to_n» .entry) ∷ now («to_z» .entry) ∷ []) (now («to_dims» .exit) ∷ now («to_kind» .exit) ∷ now («to_p» .exit) ∷ now («to_n» .exit) ∷ now («to_z» .exit) ∷ []) ⌝ }
+    ensures { λ r. ⌜ ReportsValue (setDims (shaped dims kind p n z) «new_dims» (now (a .entry)) (length (now (out .entry)))) r (now (out .entry)) (now (out .exit)) (now («to_dims» .entry) ∷ now («to_kind» .entry) ∷ now («to_p» .entry) ∷ now («to_n» .entry) ∷ now («to_z» .entry) ∷ []) (now («to_dims» .exit) ∷ now («to_kind» .exit) ∷ now («to_p» .exit) ∷ now («to_n» .exit) ∷ now («to_z» .exit) ∷ []) ⌝ }
 {
     let answer = shape_from(dims, kind, p, n, z).set_dims(new_dims, a, out);
-    tell(answer, to_dims, to_kind, to_p, to_n, to_z)
+    report(answer, to_dims, to_kind, to_p, to_n, to_z)
 }
 
 // The value in another flavor: promoted from Vanilla to Projective, else renamed.
@@ -139,14 +139,14 @@ pub extern "C" fn thresholm_set_flavor(
     to_n: &mut u8,
     to_z: &mut u8,
 ) -> u8
-    ensures { λ r. ⌜ TellsValue (setFlavor (shaped dims kind p n z) (flavorFrom «new_kind» «new_p» «new_n» «new_z») (now (a .entry)) (length (now (out .entry)))) r (now (out .entry)) (now (out .exit)) (now («to_dims» .entry) ∷ now («to_kind» .entry) ∷ now («to_p» .entry) ∷ now («to_n» .entry) ∷ now («to_z» .entry) ∷ []) (now («to_dims» .exit) ∷ now («to_kind» .exit) ∷ now («to_p» .exit) ∷ now («to_n» .exit) ∷ now («to_z» .exit) ∷ []) ⌝ }
+    ensures { λ r. ⌜ ReportsValue (setFlavor (shaped dims kind p n z) (flavorFrom «new_kind» «new_p» «new_n» «new_z») (now (a .entry)) (length (now (out .entry)))) r (now (out .entry)) (now (out .exit)) (now («to_dims» .entry) ∷ now («to_kind» .entry) ∷ now («to_p» .entry) ∷ now («to_n» .entry) ∷ now («to_z» .entry) ∷ []) (now («to_dims» .exit) ∷ now («to_kind» .exit) ∷ now («to_p» .exit) ∷ now («to_n» .exit) ∷ now («to_z» .exit) ∷ []) ⌝ }
 {
     let answer = shape_from(dims, kind, p, n, z).set_flavor(
         flavor_from(new_kind, new_p, new_n, new_z),
         a,
         out,
     );
-    tell(answer, to_dims, to_kind, to_p, to_n, to_z)
+    report(answer, to_dims, to_kind, to_p, to_n, to_z)
 }
 
 // The value at the flavor and the dimensions of another.
@@ -170,14 +170,14 @@ pub extern "C" fn thresholm_conform_to(
     to_n: &mut u8,
     to_z: &mut u8,
 ) -> u8
-    ensures { λ r. ⌜ TellsValue (conformTo (shaped dims kind p n z) (shaped «dims_right» «kind_right» «p_right» «n_right» «z_right») (now (a .entry)) (length (now (out .entry)))) r (now (out .entry)) (now (out .exit)) (now («to_dims» .entry) ∷ now («to_kind» .entry) ∷ now («to_p» .entry) ∷ now («to_n» .entry) ∷ now («to_z» .entry) ∷ []) (now («to_dims» .exit) ∷ now («to_kind» .exit) ∷ now («to_p» .exit) ∷ now («to_n» .exit) ∷ now («to_z» .exit) ∷ []) ⌝ }
+    ensures { λ r. ⌜ ReportsValue (conformTo (shaped dims kind p n z) (shaped «dims_right» «kind_right» «p_right» «n_right» «z_right») (now (a .entry)) (length (now (out .entry)))) r (now (out .entry)) (now (out .exit)) (now («to_dims» .entry) ∷ now («to_kind» .entry) ∷ now («to_p» .entry) ∷ now («to_n» .entry) ∷ now («to_z» .entry) ∷ []) (now («to_dims» .exit) ∷ now («to_kind» .exit) ∷ now («to_p» .exit) ∷ now («to_n» .exit) ∷ now («to_z» .exit) ∷ []) ⌝ }
 {
     let answer = shape_from(dims, kind, p, n, z).conform_to(
         shape_from(dims_right, kind_right, p_right, n_right, z_right),
         a,
         out,
     );
-    tell(answer, to_dims, to_kind, to_p, to_n, to_z)
+    report(answer, to_dims, to_kind, to_p, to_n, to_z)
 }
 
 // Both values at the flavor and the dimensions that they meet in.
@@ -208,7 +208,7 @@ pub extern "C" fn thresholm_conform(
     to_n_right: &mut u8,
     to_z_right: &mut u8,
 ) -> u8
-    ensures { λ r. ⌜ TellsPair (conform (shaped dims kind p n z) (shaped «dims_right» «kind_right» «p_right» «n_right» «z_right») (now (a .entry)) (now (b .entry)) (length (now (out .entry))) (length (now («out_right» .entry)))) r (now (out .entry)) (now (out .exit)) (now («out_right» .entry)) (now («out_right» .exit)) (now («to_dims» .entry) ∷ now («to_kind» .entry) ∷ now («to_p» .entry) ∷ now («to_n» .entry) ∷ now («to_z» .entry) ∷ now («to_dims_right» .entry) ∷ now («to_kind_right» .entry) ∷ now («to_p_right» .entry) ∷ now («to_n_right» .entry) ∷ now («to_z_right» .entry) ∷ []) (now («to_dims» .exit) ∷ now («to_kind» .exit) ∷ now («to_p» .exit) ∷ now («to_n» .exit) ∷ now («to_z» .exit) ∷ now («to_dims_right» .exit) ∷ now («to_kind_right» .exit) ∷ now («to_p_right» .exit) ∷ now («to_n_right» .exit) ∷ now («to_z_right» .exit) ∷ []) ⌝ }
+    ensures { λ r. ⌜ ReportsPair (conform (shaped dims kind p n z) (shaped «dims_right» «kind_right» «p_right» «n_right» «z_right») (now (a .entry)) (now (b .entry)) (length (now (out .entry))) (length (now («out_right» .entry)))) r (now (out .entry)) (now (out .exit)) (now («out_right» .entry)) (now («out_right» .exit)) (now («to_dims» .entry) ∷ now («to_kind» .entry) ∷ now («to_p» .entry) ∷ now («to_n» .entry) ∷ now («to_z» .entry) ∷ now («to_dims_right» .entry) ∷ now («to_kind_right» .entry) ∷ now («to_p_right» .entry) ∷ now («to_n_right» .entry) ∷ now («to_z_right» .entry) ∷ []) (now («to_dims» .exit) ∷ now («to_kind» .exit) ∷ now («to_p» .exit) ∷ now («to_n» .exit) ∷ now («to_z» .exit) ∷ now («to_dims_right» .exit) ∷ now («to_kind_right» .exit) ∷ now («to_p_right» .exit) ∷ now («to_n_right» .exit) ∷ now («to_z_right» .exit) ∷ []) ⌝ }
 {
     let answers = shape_from(dims, kind, p, n, z).conform(
         shape_from(dims_right, kind_right, p_right, n_right, z_right),
@@ -217,7 +217,7 @@ pub extern "C" fn thresholm_conform(
         out,
         out_right,
     );
-    tell_both(
+    report_both(
         answers,
         to_dims,
         to_kind,

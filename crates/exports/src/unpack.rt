@@ -1,10 +1,10 @@
 // Some numbers of a value, by mask.
 use super::numbers::shape_from;
-use super::tell::tell_count;
+use super::report::report_count;
 ghost use lib.ListN.{length};
 ghost use Rattle.masks.specs.Unpack.{unpackAll, unpackHalf, unpackOwnHalf, unpackVector};
 ghost use Rattle.exports.specs.Numbers.{shaped};
-ghost use Rattle.exports.specs.Told.{TellsList};
+ghost use Rattle.exports.specs.Reports.{ReportsList};
 
 // All coefficients by mask, at `d` dimensions.
 #[no_mangle]
@@ -19,9 +19,9 @@ pub extern "C" fn thresholm_unpack_all(
     out: &mut [f64],
     to_count: &mut usize,
 ) -> u8
-    ensures { λ r. ⌜ TellsList (unpackAll (shaped dims kind p n z) d (now (a .entry)) (length (now (out .entry)))) r (now (out .entry)) (now (out .exit)) (now («to_count» .entry)) (now («to_count» .exit)) ⌝ }
+    ensures { λ r. ⌜ ReportsList (unpackAll (shaped dims kind p n z) d (now (a .entry)) (length (now (out .entry)))) r (now (out .entry)) (now (out .exit)) (now («to_count» .entry)) (now («to_count» .exit)) ⌝ }
 {
-    tell_count(
+    report_count(
         shape_from(dims, kind, p, n, z).unpack_all(d, a, out),
         to_count,
     )
@@ -40,9 +40,9 @@ pub extern "C" fn thresholm_unpack_even(
     out: &mut [f64],
     to_count: &mut usize,
 ) -> u8
-    ensures { λ r. ⌜ TellsList (unpackHalf 0 (shaped dims kind p n z) d (now (a .entry)) (length (now (out .entry)))) r (now (out .entry)) (now (out .exit)) (now («to_count» .entry)) (now («to_count» .exit)) ⌝ }
+    ensures { λ r. ⌜ ReportsList (unpackHalf 0 (shaped dims kind p n z) d (now (a .entry)) (length (now (out .entry)))) r (now (out .entry)) (now (out .exit)) (now («to_count» .entry)) (now («to_count» .exit)) ⌝ }
 {
-    tell_count(
+    report_count(
         shape_from(dims, kind, p, n, z).unpack_even(d, a, out),
         to_count,
     )
@@ -61,9 +61,9 @@ pub extern "C" fn thresholm_unpack_odd(
     out: &mut [f64],
     to_count: &mut usize,
 ) -> u8
-    ensures { λ r. ⌜ TellsList (unpackHalf 1 (shaped dims kind p n z) d (now (a .entry)) (length (now (out .entry)))) r (now (out .entry)) (now (out .exit)) (now («to_count» .entry)) (now («to_count» .exit)) ⌝ }
+    ensures { λ r. ⌜ ReportsList (unpackHalf 1 (shaped dims kind p n z) d (now (a .entry)) (length (now (out .entry)))) r (now (out .entry)) (now (out .exit)) (now («to_count» .entry)) (now («to_count» .exit)) ⌝ }
 {
-    tell_count(
+    report_count(
         shape_from(dims, kind, p, n, z).unpack_odd(d, a, out),
         to_count,
     )
@@ -81,9 +81,9 @@ pub extern "C" fn thresholm_unpack_own_even(
     out: &mut [f64],
     to_count: &mut usize,
 ) -> u8
-    ensures { λ r. ⌜ TellsList (unpackOwnHalf 0 (shaped dims kind p n z) (now (a .entry)) (length (now (out .entry)))) r (now (out .entry)) (now (out .exit)) (now («to_count» .entry)) (now («to_count» .exit)) ⌝ }
+    ensures { λ r. ⌜ ReportsList (unpackOwnHalf 0 (shaped dims kind p n z) (now (a .entry)) (length (now (out .entry)))) r (now (out .entry)) (now (out .exit)) (now («to_count» .entry)) (now («to_count» .exit)) ⌝ }
 {
-    tell_count(
+    report_count(
         shape_from(dims, kind, p, n, z).unpack_own_even(a, out),
         to_count,
     )
@@ -101,9 +101,9 @@ pub extern "C" fn thresholm_unpack_own_odd(
     out: &mut [f64],
     to_count: &mut usize,
 ) -> u8
-    ensures { λ r. ⌜ TellsList (unpackOwnHalf 1 (shaped dims kind p n z) (now (a .entry)) (length (now (out .entry)))) r (now (out .entry)) (now (out .exit)) (now («to_count» .entry)) (now («to_count» .exit)) ⌝ }
+    ensures { λ r. ⌜ ReportsList (unpackOwnHalf 1 (shaped dims kind p n z) (now (a .entry)) (length (now (out .entry)))) r (now (out .entry)) (now (out .exit)) (now («to_count» .entry)) (now («to_count» .exit)) ⌝ }
 {
-    tell_count(
+    report_count(
         shape_from(dims, kind, p, n, z).unpack_own_odd(a, out),
         to_count,
     )
@@ -121,9 +121,9 @@ pub extern "C" fn thresholm_unpack_vector(
     out: &mut [f64],
     to_count: &mut usize,
 ) -> u8
-    ensures { λ r. ⌜ TellsList (unpackVector (shaped dims kind p n z) (now (a .entry)) (length (now (out .entry)))) r (now (out .entry)) (now (out .exit)) (now («to_count» .entry)) (now («to_count» .exit)) ⌝ }
+    ensures { λ r. ⌜ ReportsList (unpackVector (shaped dims kind p n z) (now (a .entry)) (length (now (out .entry)))) r (now (out .entry)) (now (out .exit)) (now («to_count» .entry)) (now («to_count» .exit)) ⌝ }
 {
-    tell_count(
+    report_count(
         shape_from(dims, kind, p, n, z).unpack_vector(a, out),
         to_count,
     )

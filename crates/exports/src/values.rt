@@ -1,9 +1,9 @@
 // Calls on one value, and the regressive product.
 use super::numbers::shape_from;
-use super::tell::tell;
-use super::tell::tell_number;
-use super::tell::tell_taken;
-use super::tell::tell_test;
+use super::report::report;
+use super::report::report_number;
+use super::report::report_taken;
+use super::report::report_test;
 use arithmetic::dual::antidual;
 use arithmetic::dual::dual;
 use arithmetic::dual::regressive_product;
@@ -25,7 +25,7 @@ ghost use Rattle.arithmetic.specs.Power.{power};
 ghost use Rattle.arithmetic.specs.Magnitude.{squaredMagnitude};
 ghost use Rattle.arithmetic.specs.Scalar.{scalarTest};
 ghost use Rattle.exports.specs.Numbers.{shaped};
-ghost use Rattle.exports.specs.Told.{TellsNumber, TellsTest, TellsValue, TellsTaken};
+ghost use Rattle.exports.specs.Reports.{ReportsNumber, ReportsTest, ReportsValue, ReportsTaken};
 
 // Grades 2, 3 mod 4 negated.
 #[no_mangle]
@@ -43,10 +43,10 @@ pub extern "C" fn thresholm_reverse(
     to_n: &mut u8,
     to_z: &mut u8,
 ) -> u8
-    ensures { λ r. ⌜ TellsValue (reverse (shaped dims kind p n z) (now (a .entry)) (length (now (out .entry)))) r (now (out .entry)) (now (out .exit)) (now («to_dims» .entry) ∷ now («to_kind» .entry) ∷ now («to_p» .entry) ∷ now («to_n» .entry) ∷ now («to_z» .entry) ∷ []) (now («to_dims» .exit) ∷ now («to_kind» .exit) ∷ now («to_p» .exit) ∷ now («to_n» .exit) ∷ now («to_z» .exit) ∷ []) ⌝ }
+    ensures { λ r. ⌜ ReportsValue (reverse (shaped dims kind p n z) (now (a .entry)) (length (now (out .entry)))) r (now (out .entry)) (now (out .exit)) (now («to_dims» .entry) ∷ now («to_kind» .entry) ∷ now («to_p» .entry) ∷ now («to_n» .entry) ∷ now («to_z» .entry) ∷ []) (now («to_dims» .exit) ∷ now («to_kind» .exit) ∷ now («to_p» .exit) ∷ now («to_n» .exit) ∷ now («to_z» .exit) ∷ []) ⌝ }
 {
     let answer = reverse(shape_from(dims, kind, p, n, z), a, out);
-    tell(answer, to_dims, to_kind, to_p, to_n, to_z)
+    report(answer, to_dims, to_kind, to_p, to_n, to_z)
 }
 
 // The other grades negated.
@@ -65,10 +65,10 @@ pub extern "C" fn thresholm_inv_reverse(
     to_n: &mut u8,
     to_z: &mut u8,
 ) -> u8
-    ensures { λ r. ⌜ TellsValue (invReverse (shaped dims kind p n z) (now (a .entry)) (length (now (out .entry)))) r (now (out .entry)) (now (out .exit)) (now («to_dims» .entry) ∷ now («to_kind» .entry) ∷ now («to_p» .entry) ∷ now («to_n» .entry) ∷ now («to_z» .entry) ∷ []) (now («to_dims» .exit) ∷ now («to_kind» .exit) ∷ now («to_p» .exit) ∷ now («to_n» .exit) ∷ now («to_z» .exit) ∷ []) ⌝ }
+    ensures { λ r. ⌜ ReportsValue (invReverse (shaped dims kind p n z) (now (a .entry)) (length (now (out .entry)))) r (now (out .entry)) (now (out .exit)) (now («to_dims» .entry) ∷ now («to_kind» .entry) ∷ now («to_p» .entry) ∷ now («to_n» .entry) ∷ now («to_z» .entry) ∷ []) (now («to_dims» .exit) ∷ now («to_kind» .exit) ∷ now («to_p» .exit) ∷ now («to_n» .exit) ∷ now («to_z» .exit) ∷ []) ⌝ }
 {
     let answer = inv_reverse(shape_from(dims, kind, p, n, z), a, out);
-    tell(answer, to_dims, to_kind, to_p, to_n, to_z)
+    report(answer, to_dims, to_kind, to_p, to_n, to_z)
 }
 
 // The dual.
@@ -87,10 +87,10 @@ pub extern "C" fn thresholm_dual(
     to_n: &mut u8,
     to_z: &mut u8,
 ) -> u8
-    ensures { λ r. ⌜ TellsValue (dual (shaped dims kind p n z) (now (a .entry)) (length (now (out .entry)))) r (now (out .entry)) (now (out .exit)) (now («to_dims» .entry) ∷ now («to_kind» .entry) ∷ now («to_p» .entry) ∷ now («to_n» .entry) ∷ now («to_z» .entry) ∷ []) (now («to_dims» .exit) ∷ now («to_kind» .exit) ∷ now («to_p» .exit) ∷ now («to_n» .exit) ∷ now («to_z» .exit) ∷ []) ⌝ }
+    ensures { λ r. ⌜ ReportsValue (dual (shaped dims kind p n z) (now (a .entry)) (length (now (out .entry)))) r (now (out .entry)) (now (out .exit)) (now («to_dims» .entry) ∷ now («to_kind» .entry) ∷ now («to_p» .entry) ∷ now («to_n» .entry) ∷ now («to_z» .entry) ∷ []) (now («to_dims» .exit) ∷ now («to_kind» .exit) ∷ now («to_p» .exit) ∷ now («to_n» .exit) ∷ now («to_z» .exit) ∷ []) ⌝ }
 {
     let answer = dual(shape_from(dims, kind, p, n, z), a, out);
-    tell(answer, to_dims, to_kind, to_p, to_n, to_z)
+    report(answer, to_dims, to_kind, to_p, to_n, to_z)
 }
 
 // The antidual.
@@ -109,10 +109,10 @@ pub extern "C" fn thresholm_antidual(
     to_n: &mut u8,
     to_z: &mut u8,
 ) -> u8
-    ensures { λ r. ⌜ TellsValue (antidual (shaped dims kind p n z) (now (a .entry)) (length (now (out .entry)))) r (now (out .entry)) (now (out .exit)) (now («to_dims» .entry) ∷ now («to_kind» .entry) ∷ now («to_p» .entry) ∷ now («to_n» .entry) ∷ now («to_z» .entry) ∷ []) (now («to_dims» .exit) ∷ now («to_kind» .exit) ∷ now («to_p» .exit) ∷ now («to_n» .exit) ∷ now («to_z» .exit) ∷ []) ⌝ }
+    ensures { λ r. ⌜ ReportsValue (antidual (shaped dims kind p n z) (now (a .entry)) (length (now (out .entry)))) r (now (out .entry)) (now (out .exit)) (now («to_dims» .entry) ∷ now («to_kind» .entry) ∷ now («to_p» .entry) ∷ now («to_n» .entry) ∷ now («to_z» .entry) ∷ []) (now («to_dims» .exit) ∷ now («to_kind» .exit) ∷ now («to_p» .exit) ∷ now («to_n» .exit) ∷ now («to_z» .exit) ∷ []) ⌝ }
 {
     let answer = antidual(shape_from(dims, kind, p, n, z), a, out);
-    tell(answer, to_dims, to_kind, to_p, to_n, to_z)
+    report(answer, to_dims, to_kind, to_p, to_n, to_z)
 }
 
 // The regressive product.
@@ -137,7 +137,7 @@ pub extern "C" fn thresholm_regressive_product(
     to_n: &mut u8,
     to_z: &mut u8,
 ) -> u8
-    ensures { λ r. ⌜ TellsValue (regressiveProduct (shaped dims kind p n z) (shaped «dims_right» «kind_right» «p_right» «n_right» «z_right») (now (a .entry)) (now (b .entry)) (length (now (out .entry)))) r (now (out .entry)) (now (out .exit)) (now («to_dims» .entry) ∷ now («to_kind» .entry) ∷ now («to_p» .entry) ∷ now («to_n» .entry) ∷ now («to_z» .entry) ∷ []) (now («to_dims» .exit) ∷ now («to_kind» .exit) ∷ now («to_p» .exit) ∷ now («to_n» .exit) ∷ now («to_z» .exit) ∷ []) ⌝ }
+    ensures { λ r. ⌜ ReportsValue (regressiveProduct (shaped dims kind p n z) (shaped «dims_right» «kind_right» «p_right» «n_right» «z_right») (now (a .entry)) (now (b .entry)) (length (now (out .entry)))) r (now (out .entry)) (now (out .exit)) (now («to_dims» .entry) ∷ now («to_kind» .entry) ∷ now («to_p» .entry) ∷ now («to_n» .entry) ∷ now («to_z» .entry) ∷ []) (now («to_dims» .exit) ∷ now («to_kind» .exit) ∷ now («to_p» .exit) ∷ now («to_n» .exit) ∷ now («to_z» .exit) ∷ []) ⌝ }
 {
     let answer = regressive_product(
         shape_from(dims, kind, p, n, z),
@@ -146,7 +146,7 @@ pub extern "C" fn thresholm_regressive_product(
         b,
         out,
     );
-    tell(answer, to_dims, to_kind, to_p, to_n, to_z)
+    report(answer, to_dims, to_kind, to_p, to_n, to_z)
 }
 
 // The inverse.
@@ -165,10 +165,10 @@ pub extern "C" fn thresholm_inverted(
     to_n: &mut u8,
     to_z: &mut u8,
 ) -> u8
-    ensures { λ r. ⌜ TellsValue (inverse (shaped dims kind p n z) (now (a .entry)) (length (now (out .entry)))) r (now (out .entry)) (now (out .exit)) (now («to_dims» .entry) ∷ now («to_kind» .entry) ∷ now («to_p» .entry) ∷ now («to_n» .entry) ∷ now («to_z» .entry) ∷ []) (now («to_dims» .exit) ∷ now («to_kind» .exit) ∷ now («to_p» .exit) ∷ now («to_n» .exit) ∷ now («to_z» .exit) ∷ []) ⌝ }
+    ensures { λ r. ⌜ ReportsValue (inverse (shaped dims kind p n z) (now (a .entry)) (length (now (out .entry)))) r (now (out .entry)) (now (out .exit)) (now («to_dims» .entry) ∷ now («to_kind» .entry) ∷ now («to_p» .entry) ∷ now («to_n» .entry) ∷ now («to_z» .entry) ∷ []) (now («to_dims» .exit) ∷ now («to_kind» .exit) ∷ now («to_p» .exit) ∷ now («to_n» .exit) ∷ now («to_z» .exit) ∷ []) ⌝ }
 {
     let answer = inverted(shape_from(dims, kind, p, n, z), a, out);
-    tell(answer, to_dims, to_kind, to_p, to_n, to_z)
+    report(answer, to_dims, to_kind, to_p, to_n, to_z)
 }
 
 // A whole power.
@@ -188,10 +188,10 @@ pub extern "C" fn thresholm_powi(
     to_n: &mut u8,
     to_z: &mut u8,
 ) -> u8
-    ensures { λ r. ⌜ TellsValue (power (shaped dims kind p n z) exponent (now (a .entry)) (length (now (out .entry)))) r (now (out .entry)) (now (out .exit)) (now («to_dims» .entry) ∷ now («to_kind» .entry) ∷ now («to_p» .entry) ∷ now («to_n» .entry) ∷ now («to_z» .entry) ∷ []) (now («to_dims» .exit) ∷ now («to_kind» .exit) ∷ now («to_p» .exit) ∷ now («to_n» .exit) ∷ now («to_z» .exit) ∷ []) ⌝ }
+    ensures { λ r. ⌜ ReportsValue (power (shaped dims kind p n z) exponent (now (a .entry)) (length (now (out .entry)))) r (now (out .entry)) (now (out .exit)) (now («to_dims» .entry) ∷ now («to_kind» .entry) ∷ now («to_p» .entry) ∷ now («to_n» .entry) ∷ now («to_z» .entry) ∷ []) (now («to_dims» .exit) ∷ now («to_kind» .exit) ∷ now («to_p» .exit) ∷ now («to_n» .exit) ∷ now («to_z» .exit) ∷ []) ⌝ }
 {
     let answer = powi(shape_from(dims, kind, p, n, z), exponent, a, out);
-    tell(answer, to_dims, to_kind, to_p, to_n, to_z)
+    report(answer, to_dims, to_kind, to_p, to_n, to_z)
 }
 
 // Place 0 kept, and +0 in every other.
@@ -210,10 +210,10 @@ pub extern "C" fn thresholm_make_scalar_only(
     to_n: &mut u8,
     to_z: &mut u8,
 ) -> u8
-    ensures { λ r. ⌜ TellsValue (makeScalarOnly (shaped dims kind p n z) (now (a .entry)) (length (now (out .entry)))) r (now (out .entry)) (now (out .exit)) (now («to_dims» .entry) ∷ now («to_kind» .entry) ∷ now («to_p» .entry) ∷ now («to_n» .entry) ∷ now («to_z» .entry) ∷ []) (now («to_dims» .exit) ∷ now («to_kind» .exit) ∷ now («to_p» .exit) ∷ now («to_n» .exit) ∷ now («to_z» .exit) ∷ []) ⌝ }
+    ensures { λ r. ⌜ ReportsValue (makeScalarOnly (shaped dims kind p n z) (now (a .entry)) (length (now (out .entry)))) r (now (out .entry)) (now (out .exit)) (now («to_dims» .entry) ∷ now («to_kind» .entry) ∷ now («to_p» .entry) ∷ now («to_n» .entry) ∷ now («to_z» .entry) ∷ []) (now («to_dims» .exit) ∷ now («to_kind» .exit) ∷ now («to_p» .exit) ∷ now («to_n» .exit) ∷ now («to_z» .exit) ∷ []) ⌝ }
 {
     let answer = make_scalar_only(shape_from(dims, kind, p, n, z), a, out);
-    tell(answer, to_dims, to_kind, to_p, to_n, to_z)
+    report(answer, to_dims, to_kind, to_p, to_n, to_z)
 }
 
 // The squared magnitude.
@@ -227,9 +227,9 @@ pub extern "C" fn thresholm_squared_magnitude(
     a: &[f64],
     to_value: &mut f64,
 ) -> u8
-    ensures { λ r. ⌜ TellsNumber (squaredMagnitude (shaped dims kind p n z) (now (a .entry))) r (now («to_value» .entry)) (now («to_value» .exit)) ⌝ }
+    ensures { λ r. ⌜ ReportsNumber (squaredMagnitude (shaped dims kind p n z) (now (a .entry))) r (now («to_value» .entry)) (now («to_value» .exit)) ⌝ }
 {
-    tell_number(
+    report_number(
         squared_magnitude(shape_from(dims, kind, p, n, z), a),
         to_value,
     )
@@ -252,10 +252,10 @@ pub extern "C" fn thresholm_take_scalar(
     to_z: &mut u8,
     to_value: &mut f64,
 ) -> u8
-    ensures { λ r. ⌜ TellsTaken (takeScalar (shaped dims kind p n z) (now (a .entry)) (length (now (out .entry)))) r (now (out .entry)) (now (out .exit)) ((now («to_dims» .entry) ∷ now («to_kind» .entry) ∷ now («to_p» .entry) ∷ now («to_n» .entry) ∷ now («to_z» .entry) ∷ []), now («to_value» .entry)) ((now («to_dims» .exit) ∷ now («to_kind» .exit) ∷ now («to_p» .exit) ∷ now («to_n» .exit) ∷ now («to_z» .exit) ∷ []), now («to_value» .exit)) ⌝ }
+    ensures { λ r. ⌜ ReportsTaken (takeScalar (shaped dims kind p n z) (now (a .entry)) (length (now (out .entry)))) r (now (out .entry)) (now (out .exit)) ((now («to_dims» .entry) ∷ now («to_kind» .entry) ∷ now («to_p» .entry) ∷ now («to_n» .entry) ∷ now («to_z» .entry) ∷ []), now («to_value» .entry)) ((now («to_dims» .exit) ∷ now («to_kind» .exit) ∷ now («to_p» .exit) ∷ now («to_n» .exit) ∷ now («to_z» .exit) ∷ []), now («to_value» .exit)) ⌝ }
 {
     let taken = take_scalar(shape_from(dims, kind, p, n, z), a, out);
-    tell_taken(taken, to_dims, to_kind, to_p, to_n, to_z, to_value)
+    report_taken(taken, to_dims, to_kind, to_p, to_n, to_z, to_value)
 }
 
 // Scalar with its number (0), planar with a complex pair (1), or neither (2).
@@ -271,9 +271,9 @@ pub extern "C" fn thresholm_scalar_test(
     to_re: &mut f64,
     to_im: &mut f64,
 ) -> u8
-    ensures { λ r. ⌜ TellsTest (scalarTest (shaped dims kind p n z) (now (a .entry))) r (now («to_test» .entry), now («to_re» .entry) ∷ now («to_im» .entry) ∷ []) (now («to_test» .exit), now («to_re» .exit) ∷ now («to_im» .exit) ∷ []) ⌝ }
+    ensures { λ r. ⌜ ReportsTest (scalarTest (shaped dims kind p n z) (now (a .entry))) r (now («to_test» .entry), now («to_re» .entry) ∷ now («to_im» .entry) ∷ []) (now («to_test» .exit), now («to_re» .exit) ∷ now («to_im» .exit) ∷ []) ⌝ }
 {
-    tell_test(
+    report_test(
         scalar_test(shape_from(dims, kind, p, n, z), a),
         to_test,
         to_re,

@@ -4,9 +4,11 @@ use mathlib.Core.Bool.{Bool, true, false, _||_, true≢false, or-assoc, or-true}
 use mathlib.Core.List.{List, [], _∷_, _++_}
 use Prim.Native.Nat.{ℕ, zero, suc, _+_, _*_, _≤_, _<_}
 use native.Mathlib.Nat.{le-of-suc-le-suc, not-suc-le-zero}
+use native.Mathlib.Numerals.{add-one}
 use native.Mathlib.Omega.{arith}
 use lib.Dec.{ltb}
 use lib.ListN.{length, getD, take, length-append}
+use lib.Seq.{take-suc}
 use borrow.Author.Tests.{lt-ltb, le-ltb, ltb-false, eqb-true, eq-eqb, not-false}
 use Rattle.masks.specs.declared.flavor.Flavor.{Flavor}
 use Rattle.masks.specs.declared.flavor.Flavor.the-variants.{Vanilla, Projective, Cl}
@@ -71,6 +73,13 @@ unfolding anyAboveNine
 above-take zero ss e = refl
 above-take (suc i) [] e = refl
 above-take (suc i) (s ∷ ss) e = let p = neither (ltb 9 (s .dims)) (anyAboveNine ss) e in rw (p .0) (above-take i ss (p .1))
+
+-- nor of one more where that is not either
+pub above-next : (ss : List Shape) (i : ℕ) → i < length ss → getD ss i (shapeOf 0 Vanilla) .dims ≤ 9 → anyAboveNine (take i ss) ≡ false → anyAboveNine (take (i + 1) ss) ≡ false
+unfolding anyAboveNine
+above-next ss i h l e =
+    let s = getD ss i (shapeOf 0 Vanilla) in
+    rw (add-one i, take-suc ss i (shapeOf 0 Vanilla) h, above-append (take i ss) (s ∷ []), e, le-ltb 9 (s .dims) l)
 
 -- one that is above 9
 pub above-at : (i : ℕ) (ss : List Shape) → i < length ss → 9 < getD ss i (shapeOf 0 Vanilla) .dims → anyAboveNine ss ≡ true

@@ -6,7 +6,7 @@ use Rattle.masks.specs.Blade.{gradeRefusal}
 use Rattle.masks.proofs.OutcomeLaws.{unless-refused, unless-done}
 use Rattle.masks.proofs.BladeLaws.{Graded, graded}
 use Rattle.exports.specs.Numbers.{shaped}
-use Rattle.exports.specs.Told.{told}
+use Rattle.exports.specs.Reports.{reported}
 use Rattle.exports.proofs.blades.thresholm_grade.Statement.{statement}
 use Rattle.exports.proofs.blades.thresholm_grade.Tie as tie
 
@@ -28,7 +28,7 @@ numbered c =
     c .grade-refusal .ensures ∙ ap (λ (s : Shape). gradeRefusal s (a .grade) (a .a .now)) {y = given c} (c .before .shape-from .ensures)
 
 returns : tie.Need-returns
-unfolding told
+unfolding reported
 returns c =
     let e = numbered (c .before) in
     record { returned = e; holding = sym (unless-refused _ _ _ _ e (c .if1 .taken)) }
@@ -44,7 +44,7 @@ size-of-requires : tie.Need-size-of-requires
 size-of-requires c κs = ok (c .before) .value .small
 
 returns-2 : tie.Need-returns-2
-unfolding told
+unfolding reported
 returns-2 c =
     let i = c .before .before in
     let e = numbered (i .before) in

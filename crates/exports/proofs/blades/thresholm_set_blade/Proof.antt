@@ -4,7 +4,7 @@ use borrow.Author.Needs.{needs}
 use lib.ListN.{length}
 use Rattle.masks.specs.declared.shape.Shape.{Shape}
 use Rattle.masks.specs.Blade.{setBlade}
-use Rattle.exports.proofs.ToldLaws.{value-told}
+use Rattle.exports.proofs.ReportsLaws.{value-reported}
 use Rattle.exports.proofs.blades.thresholm_set_blade.Statement.{statement}
 use Rattle.exports.proofs.blades.thresholm_set_blade.Tie as tie
 
@@ -14,8 +14,8 @@ shape-from-requires c κs = search needs
 set-blade-requires : tie.Need-set-blade-requires
 set-blade-requires c κs = search needs
 
-tell-requires : tie.Need-tell-requires
-tell-requires c κs = search needs
+report-requires : tie.Need-report-requires
+report-requires c κs = search needs
 
 same-length : tie.Need-same-length
 same-length c = search needs
@@ -23,8 +23,8 @@ same-length c = search needs
 returns : tie.Need-returns
 returns c =
     let given = c .before .before .before .before .before .before .before .before .before .before .before .before .before .args in
-    value-told (ap (λ (s : Shape). setBlade s (given .mask) (given .x) (given .a .now) (length (given .out .now))) (c .before .before .before .before .before .before .before .before .before .before .shape-from .ensures)) (c .before .before .before .before .before .before .before .before .set-blade .ensures) (c .tell .ensures)
+    value-reported (ap (λ (s : Shape). setBlade s (given .mask) (given .x) (given .a .now) (length (given .out .now))) (c .before .before .before .before .before .before .before .before .before .before .shape-from .ensures)) (c .before .before .before .before .before .before .before .before .set-blade .ensures) (c .report .ensures)
 
 pub thresholm-set-blade-spec : {M : Type 1} → statement M
 thresholm-set-blade-spec =
-    tie.close (tie.spec shape-from-requires set-blade-requires tell-requires same-length returns)
+    tie.close (tie.spec shape-from-requires set-blade-requires report-requires same-length returns)

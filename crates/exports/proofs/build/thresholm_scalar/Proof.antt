@@ -4,7 +4,7 @@ use borrow.Author.Needs.{needs}
 use lib.ListN.{length}
 use Rattle.masks.specs.declared.flavor.Flavor.{Flavor}
 use Rattle.masks.specs.Build.{scalar}
-use Rattle.exports.proofs.ToldLaws.{value-told}
+use Rattle.exports.proofs.ReportsLaws.{value-reported}
 use Rattle.exports.proofs.build.thresholm_scalar.Statement.{statement}
 use Rattle.exports.proofs.build.thresholm_scalar.Tie as tie
 
@@ -14,8 +14,8 @@ flavor-from-requires c κs = search needs
 scalar-requires : tie.Need-scalar-requires
 scalar-requires c κs = search needs
 
-tell-requires : tie.Need-tell-requires
-tell-requires c κs = search needs
+report-requires : tie.Need-report-requires
+report-requires c κs = search needs
 
 same-length : tie.Need-same-length
 same-length c = search needs
@@ -23,8 +23,8 @@ same-length c = search needs
 returns : tie.Need-returns
 returns c =
     let given = c .before .before .before .before .before .before .before .before .before .before .before .before .args in
-    value-told (ap (λ (f : Flavor). scalar (given .dims) (given .x) f (length (given .out .now))) (c .before .before .before .before .before .before .before .before .before .before .flavor-from .ensures)) (c .before .before .before .before .before .before .before .before .scalar .ensures) (c .tell .ensures)
+    value-reported (ap (λ (f : Flavor). scalar (given .dims) (given .x) f (length (given .out .now))) (c .before .before .before .before .before .before .before .before .before .before .flavor-from .ensures)) (c .before .before .before .before .before .before .before .before .scalar .ensures) (c .report .ensures)
 
 pub thresholm-scalar-spec : {M : Type 1} → statement M
 thresholm-scalar-spec =
-    tie.close (tie.spec flavor-from-requires scalar-requires tell-requires same-length returns)
+    tie.close (tie.spec flavor-from-requires scalar-requires report-requires same-length returns)

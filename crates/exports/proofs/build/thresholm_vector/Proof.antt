@@ -4,7 +4,7 @@ use borrow.Author.Needs.{needs}
 use lib.ListN.{length}
 use Rattle.masks.specs.declared.flavor.Flavor.{Flavor}
 use Rattle.masks.specs.Build.{vector}
-use Rattle.exports.proofs.ToldLaws.{value-told}
+use Rattle.exports.proofs.ReportsLaws.{value-reported}
 use Rattle.exports.proofs.build.thresholm_vector.Statement.{statement}
 use Rattle.exports.proofs.build.thresholm_vector.Tie as tie
 
@@ -14,8 +14,8 @@ flavor-from-requires c κs = search needs
 vector-requires : tie.Need-vector-requires
 vector-requires c κs = search needs
 
-tell-requires : tie.Need-tell-requires
-tell-requires c κs = search needs
+report-requires : tie.Need-report-requires
+report-requires c κs = search needs
 
 same-length : tie.Need-same-length
 same-length c = search needs
@@ -23,8 +23,8 @@ same-length c = search needs
 returns : tie.Need-returns
 returns c =
     let given = c .before .before .before .before .before .before .before .before .before .before .before .before .before .args in
-    value-told (ap (λ (f : Flavor). vector (given .v .now) f (length (given .out .now))) (c .before .before .before .before .before .before .before .before .before .before .flavor-from .ensures)) (c .before .before .before .before .before .before .before .before .vector .ensures) (c .tell .ensures)
+    value-reported (ap (λ (f : Flavor). vector (given .v .now) f (length (given .out .now))) (c .before .before .before .before .before .before .before .before .before .before .flavor-from .ensures)) (c .before .before .before .before .before .before .before .before .vector .ensures) (c .report .ensures)
 
 pub thresholm-vector-spec : {M : Type 1} → statement M
 thresholm-vector-spec =
-    tie.close (tie.spec flavor-from-requires vector-requires tell-requires same-length returns)
+    tie.close (tie.spec flavor-from-requires vector-requires report-requires same-length returns)

@@ -8,12 +8,12 @@ use Rattle.exports.proofs.flavors.thresholm_null_flavor.Tie as tie
 null-flavor-requires : tie.Need-null-flavor-requires
 null-flavor-requires c κs = search needs
 
-tell-flavor-requires : tie.Need-tell-flavor-requires
-tell-flavor-requires c κs = search needs
+report-flavor-requires : tie.Need-report-flavor-requires
+report-flavor-requires c κs = search needs
 
 returns : tie.Need-returns
 returns c =
-    c .tell-flavor .ensures ∙ ap flavorBytes (c .before .before .before .before .before .null-flavor .ensures)
+    c .report-flavor .ensures ∙ ap flavorBytes (c .before .before .before .before .before .null-flavor .ensures)
 
 pub thresholm-null-flavor-spec : {M : Type 1} → statement M
-thresholm-null-flavor-spec = tie.close (tie.spec null-flavor-requires tell-flavor-requires returns)
+thresholm-null-flavor-spec = tie.close (tie.spec null-flavor-requires report-flavor-requires returns)

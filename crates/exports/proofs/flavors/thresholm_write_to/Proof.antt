@@ -4,7 +4,7 @@ use borrow.Author.Needs.{needs}
 use lib.ListN.{length}
 use Rattle.masks.specs.declared.flavor.Flavor.{Flavor}
 use Rattle.masks.specs.Text.{writeFlavor}
-use Rattle.exports.proofs.ToldLaws.{list-told}
+use Rattle.exports.proofs.ReportsLaws.{list-reported}
 use Rattle.exports.proofs.flavors.thresholm_write_to.Statement.{statement}
 use Rattle.exports.proofs.flavors.thresholm_write_to.Tie as tie
 
@@ -14,8 +14,8 @@ flavor-from-requires c κs = search needs
 write-to-requires : tie.Need-write-to-requires
 write-to-requires c κs = search needs
 
-tell-count-requires : tie.Need-tell-count-requires
-tell-count-requires c κs = search needs
+report-count-requires : tie.Need-report-count-requires
+report-count-requires c κs = search needs
 
 same-length : tie.Need-same-length
 same-length c = search needs
@@ -23,9 +23,9 @@ same-length c = search needs
 returns : tie.Need-returns
 returns c =
     let given = c .before .before .before .before .before .before .before .before .args in
-    list-told (ap (λ (f : Flavor). writeFlavor f (length (given .out .now))) (c .before .before .before .before .before .before .flavor-from .ensures)) (c .before .before .before .before .write-to .ensures) (c .tell-count .ensures)
+    list-reported (ap (λ (f : Flavor). writeFlavor f (length (given .out .now))) (c .before .before .before .before .before .before .flavor-from .ensures)) (c .before .before .before .before .write-to .ensures) (c .report-count .ensures)
 
 pub thresholm-write-to-spec : {M : Type 1} → statement M
 thresholm-write-to-spec =
     tie.close
-    (tie.spec flavor-from-requires write-to-requires tell-count-requires same-length returns)
+    (tie.spec flavor-from-requires write-to-requires report-count-requires same-length returns)

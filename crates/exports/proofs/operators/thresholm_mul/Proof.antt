@@ -4,7 +4,7 @@ use borrow.Author.Needs.{needs}
 use lib.ListN.{length}
 use Rattle.masks.specs.declared.shape.Shape.{Shape}
 use Rattle.arithmetic.specs.Operators.{multiplication}
-use Rattle.exports.proofs.ToldLaws.{value-told}
+use Rattle.exports.proofs.ReportsLaws.{value-reported}
 use Rattle.exports.proofs.operators.thresholm_mul.Statement.{statement}
 use Rattle.exports.proofs.operators.thresholm_mul.Tie as tie
 
@@ -17,8 +17,8 @@ shape-from-requires-2 c κs = search needs
 mul-requires : tie.Need-mul-requires
 mul-requires c κs = search needs
 
-tell-requires : tie.Need-tell-requires
-tell-requires c κs = search needs
+report-requires : tie.Need-report-requires
+report-requires c κs = search needs
 
 same-length : tie.Need-same-length
 same-length c = search needs
@@ -26,7 +26,7 @@ same-length c = search needs
 returns : tie.Need-returns
 returns c =
     let given = c .before .before .before .before .before .before .before .before .before .before .before .before .before .before .before .args in
-    value-told (ap₂ (λ (s : Shape) (t : Shape). multiplication s t (given .a .now) (given .b .now) (length (given .out .now))) (c .before .before .before .before .before .before .before .before .before .before .before .shape-from .ensures) (c .before .before .before .before .before .before .before .before .before .before .shape-from2 .ensures)) (c .before .before .before .before .before .before .before .before .mul .ensures) (c .tell .ensures)
+    value-reported (ap₂ (λ (s : Shape) (t : Shape). multiplication s t (given .a .now) (given .b .now) (length (given .out .now))) (c .before .before .before .before .before .before .before .before .before .before .before .shape-from .ensures) (c .before .before .before .before .before .before .before .before .before .before .shape-from2 .ensures)) (c .before .before .before .before .before .before .before .before .mul .ensures) (c .report .ensures)
 
 pub thresholm-mul-spec : {M : Type 1} → statement M
 thresholm-mul-spec =
@@ -35,6 +35,6 @@ thresholm-mul-spec =
     shape-from-requires
     shape-from-requires-2
     mul-requires
-    tell-requires
+    report-requires
     same-length
     returns)

@@ -5,7 +5,7 @@ use lib.ListN.{length}
 use Rattle.masks.specs.declared.shape.Shape.{Shape}
 use Rattle.arithmetic.specs.declared.operators.Sum.the-variants.{Minus}
 use Rattle.arithmetic.specs.Operators.{addition}
-use Rattle.exports.proofs.ToldLaws.{value-told}
+use Rattle.exports.proofs.ReportsLaws.{value-reported}
 use Rattle.exports.proofs.operators.thresholm_sub.Statement.{statement}
 use Rattle.exports.proofs.operators.thresholm_sub.Tie as tie
 
@@ -18,8 +18,8 @@ shape-from-requires-2 c κs = search needs
 sub-requires : tie.Need-sub-requires
 sub-requires c κs = search needs
 
-tell-requires : tie.Need-tell-requires
-tell-requires c κs = search needs
+report-requires : tie.Need-report-requires
+report-requires c κs = search needs
 
 same-length : tie.Need-same-length
 same-length c = search needs
@@ -27,7 +27,7 @@ same-length c = search needs
 returns : tie.Need-returns
 returns c =
     let given = c .before .before .before .before .before .before .before .before .before .before .before .before .before .before .before .args in
-    value-told (ap₂ (λ (s : Shape) (t : Shape). addition Minus s t (given .a .now) (given .b .now) (length (given .out .now))) (c .before .before .before .before .before .before .before .before .before .before .before .shape-from .ensures) (c .before .before .before .before .before .before .before .before .before .before .shape-from2 .ensures)) (c .before .before .before .before .before .before .before .before .sub .ensures) (c .tell .ensures)
+    value-reported (ap₂ (λ (s : Shape) (t : Shape). addition Minus s t (given .a .now) (given .b .now) (length (given .out .now))) (c .before .before .before .before .before .before .before .before .before .before .before .shape-from .ensures) (c .before .before .before .before .before .before .before .before .before .before .shape-from2 .ensures)) (c .before .before .before .before .before .before .before .before .sub .ensures) (c .report .ensures)
 
 pub thresholm-sub-spec : {M : Type 1} → statement M
 thresholm-sub-spec =
@@ -36,6 +36,6 @@ thresholm-sub-spec =
     shape-from-requires
     shape-from-requires-2
     sub-requires
-    tell-requires
+    report-requires
     same-length
     returns)

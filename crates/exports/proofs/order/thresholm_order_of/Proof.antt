@@ -1,6 +1,6 @@
 -- `exports::order::thresholm_order_of` meets its contract: the first `count` of each array are all that it holds. Assumes nothing.
 use borrow.Author.Needs.{needs}
-use Rattle.exports.proofs.OrderLaws.{Sorted, sorted, masks-short, places-short, order-told}
+use Rattle.exports.proofs.OrderLaws.{Sorted, sorted, masks-short, places-short, order-reported}
 use Rattle.exports.proofs.order.thresholm_order_of.Statement.{statement}
 use Rattle.exports.proofs.order.thresholm_order_of.Tie as tie
 
@@ -48,7 +48,7 @@ returns-3 c =
     let e = m .before .before .before .before in
     let b = e .before .before in
     let a = b .before .before .before .before .args in
-    order-told (a .dims) (b .before .order-of .result) (b .blade-count .result) (a .masks .now) _ (a .places .now) _ (a .to-count .now) (known b) (e .before .if1 .left) (e .if2 .left) (m .copy-masks .ensures) (c .before .before .copy-masks2 .ensures)
+    order-reported (a .dims) (b .before .order-of .result) (b .blade-count .result) (a .masks .now) _ (a .places .now) _ (a .to-count .now) (known b) (e .before .if1 .left) (e .if2 .left) (m .copy-masks .ensures) (c .before .before .copy-masks2 .ensures)
 
 pub thresholm-order-of-spec : {M : Type 1} → statement M
 thresholm-order-of-spec =

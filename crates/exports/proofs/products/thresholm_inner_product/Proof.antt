@@ -4,7 +4,7 @@ use borrow.Author.Needs.{needs}
 use lib.ListN.{length}
 use Rattle.masks.specs.declared.shape.Shape.{Shape}
 use Rattle.product.specs.Products.{innerProduct}
-use Rattle.exports.proofs.ToldLaws.{product-told}
+use Rattle.exports.proofs.ReportsLaws.{product-reported}
 use Rattle.exports.proofs.products.thresholm_inner_product.Statement.{statement}
 use Rattle.exports.proofs.products.thresholm_inner_product.Tie as tie
 
@@ -17,8 +17,8 @@ shape-from-requires-2 c κs = search needs
 inner-product-requires : tie.Need-inner-product-requires
 inner-product-requires c κs = search needs
 
-tell-product-requires : tie.Need-tell-product-requires
-tell-product-requires c κs = search needs
+report-product-requires : tie.Need-report-product-requires
+report-product-requires c κs = search needs
 
 same-length : tie.Need-same-length
 same-length c = search needs
@@ -26,7 +26,7 @@ same-length c = search needs
 returns : tie.Need-returns
 returns c =
     let given = c .before .before .before .before .before .before .before .before .before .before .before .before .before .before .before .before .args in
-    product-told (ap₂ (λ (s : Shape) (t : Shape). innerProduct s t (given .a .now) (given .b .now) (length (given .out .now))) (c .before .before .before .before .before .before .before .before .before .before .before .before .shape-from .ensures) (c .before .before .before .before .before .before .before .before .before .before .before .shape-from2 .ensures)) (c .before .before .before .before .before .before .before .before .before .inner-product .ensures) (c .tell-product .ensures)
+    product-reported (ap₂ (λ (s : Shape) (t : Shape). innerProduct s t (given .a .now) (given .b .now) (length (given .out .now))) (c .before .before .before .before .before .before .before .before .before .before .before .before .shape-from .ensures) (c .before .before .before .before .before .before .before .before .before .before .before .shape-from2 .ensures)) (c .before .before .before .before .before .before .before .before .before .inner-product .ensures) (c .report-product .ensures)
 
 pub thresholm-inner-product-spec : {M : Type 1} → statement M
 thresholm-inner-product-spec =
@@ -35,6 +35,6 @@ thresholm-inner-product-spec =
     shape-from-requires
     shape-from-requires-2
     inner-product-requires
-    tell-product-requires
+    report-product-requires
     same-length
     returns)

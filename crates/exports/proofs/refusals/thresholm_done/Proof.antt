@@ -4,8 +4,8 @@ use mathlib.Core.List.{[]}
 use borrow.Author.Needs.{needs}
 use Rattle.masks.specs.declared.shape.Shape.{Shape}
 use Rattle.masks.specs.Outcome.{answerOf, value}
-use Rattle.exports.specs.Told.{TellsAnswer}
-use Rattle.exports.proofs.ToldLaws.{same-told}
+use Rattle.exports.specs.Reports.{ReportsAnswer}
+use Rattle.exports.proofs.ReportsLaws.{same-reported}
 use Rattle.exports.proofs.refusals.thresholm_done.Statement.{statement}
 use Rattle.exports.proofs.refusals.thresholm_done.Tie as tie
 
@@ -15,12 +15,12 @@ shape-from-requires c κs = search needs
 done-requires : tie.Need-done-requires
 done-requires c κs = search needs
 
-tell-requires : tie.Need-tell-requires
-tell-requires c κs = search needs
+report-requires : tie.Need-report-requires
+report-requires c κs = search needs
 
 returns : tie.Need-returns
 returns c =
-    same-told TellsAnswer (c .before .before .before .before .before .before .done .ensures ∙ (ap (λ (s : Shape). answerOf (value s [])) (c .before .before .before .before .before .before .before .shape-from .ensures))) (c .tell .ensures)
+    same-reported ReportsAnswer (c .before .before .before .before .before .before .done .ensures ∙ (ap (λ (s : Shape). answerOf (value s [])) (c .before .before .before .before .before .before .before .shape-from .ensures))) (c .report .ensures)
 
 pub thresholm-done-spec : {M : Type 1} → statement M
-thresholm-done-spec = tie.close (tie.spec shape-from-requires done-requires tell-requires returns)
+thresholm-done-spec = tie.close (tie.spec shape-from-requires done-requires report-requires returns)

@@ -4,7 +4,7 @@ use borrow.Author.Needs.{needs}
 use lib.ListN.{length}
 use Rattle.masks.specs.declared.shape.Shape.{Shape}
 use Rattle.masks.specs.Shape.{conform}
-use Rattle.exports.proofs.ToldLaws.{pair-told}
+use Rattle.exports.proofs.ReportsLaws.{pair-reported}
 use Rattle.exports.proofs.shapes.thresholm_conform.Statement.{statement}
 use Rattle.exports.proofs.shapes.thresholm_conform.Tie as tie
 
@@ -17,8 +17,8 @@ shape-from-requires-2 c κs = search needs
 conform-requires : tie.Need-conform-requires
 conform-requires c κs = search needs
 
-tell-both-requires : tie.Need-tell-both-requires
-tell-both-requires c κs = search needs
+report-both-requires : tie.Need-report-both-requires
+report-both-requires c κs = search needs
 
 same-length : tie.Need-same-length
 same-length c = search needs
@@ -29,7 +29,7 @@ same-length-2 c = search needs
 returns : tie.Need-returns
 returns c =
     let given = c .before .before .before .before .before .before .before .before .before .before .before .before .before .before .before .before .before .before .before .before .before .before .before .before .args in
-    pair-told (ap₂ (λ (s : Shape) (t : Shape). conform s t (given .a .now) (given .b .now) (length (given .out .now)) (length (given .out-right .now))) (c .before .before .before .before .before .before .before .before .before .before .before .before .before .before .before .before .before .before .before .shape-from .ensures) (c .before .before .before .before .before .before .before .before .before .before .before .before .before .before .before .before .before .before .shape-from2 .ensures)) (c .before .before .before .before .before .before .before .before .before .before .before .before .before .before .before .conform .ensures) (c .tell-both .ensures)
+    pair-reported (ap₂ (λ (s : Shape) (t : Shape). conform s t (given .a .now) (given .b .now) (length (given .out .now)) (length (given .out-right .now))) (c .before .before .before .before .before .before .before .before .before .before .before .before .before .before .before .before .before .before .before .shape-from .ensures) (c .before .before .before .before .before .before .before .before .before .before .before .before .before .before .before .before .before .before .shape-from2 .ensures)) (c .before .before .before .before .before .before .before .before .before .before .before .before .before .before .before .conform .ensures) (c .report-both .ensures)
 
 pub thresholm-conform-spec : {M : Type 1} → statement M
 thresholm-conform-spec =
@@ -38,7 +38,7 @@ thresholm-conform-spec =
     shape-from-requires
     shape-from-requires-2
     conform-requires
-    tell-both-requires
+    report-both-requires
     same-length
     same-length-2
     returns)

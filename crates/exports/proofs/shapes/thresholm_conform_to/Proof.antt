@@ -4,7 +4,7 @@ use borrow.Author.Needs.{needs}
 use lib.ListN.{length}
 use Rattle.masks.specs.declared.shape.Shape.{Shape}
 use Rattle.masks.specs.Shape.{conformTo}
-use Rattle.exports.proofs.ToldLaws.{value-told}
+use Rattle.exports.proofs.ReportsLaws.{value-reported}
 use Rattle.exports.proofs.shapes.thresholm_conform_to.Statement.{statement}
 use Rattle.exports.proofs.shapes.thresholm_conform_to.Tie as tie
 
@@ -17,8 +17,8 @@ shape-from-requires-2 c κs = search needs
 conform-to-requires : tie.Need-conform-to-requires
 conform-to-requires c κs = search needs
 
-tell-requires : tie.Need-tell-requires
-tell-requires c κs = search needs
+report-requires : tie.Need-report-requires
+report-requires c κs = search needs
 
 same-length : tie.Need-same-length
 same-length c = search needs
@@ -26,7 +26,7 @@ same-length c = search needs
 returns : tie.Need-returns
 returns c =
     let given = c .before .before .before .before .before .before .before .before .before .before .before .before .before .before .args in
-    value-told (ap₂ (λ (s : Shape) (t : Shape). conformTo s t (given .a .now) (length (given .out .now))) (c .before .before .before .before .before .before .before .before .before .before .before .shape-from .ensures) (c .before .before .before .before .before .before .before .before .before .before .shape-from2 .ensures)) (c .before .before .before .before .before .before .before .before .conform-to .ensures) (c .tell .ensures)
+    value-reported (ap₂ (λ (s : Shape) (t : Shape). conformTo s t (given .a .now) (length (given .out .now))) (c .before .before .before .before .before .before .before .before .before .before .before .shape-from .ensures) (c .before .before .before .before .before .before .before .before .before .before .shape-from2 .ensures)) (c .before .before .before .before .before .before .before .before .conform-to .ensures) (c .report .ensures)
 
 pub thresholm-conform-to-spec : {M : Type 1} → statement M
 thresholm-conform-to-spec =
@@ -35,6 +35,6 @@ thresholm-conform-to-spec =
     shape-from-requires
     shape-from-requires-2
     conform-to-requires
-    tell-requires
+    report-requires
     same-length
     returns)

@@ -5,7 +5,7 @@ use lib.ListN.{length}
 use Rattle.masks.specs.declared.shape.Shape.{Shape}
 use Rattle.masks.specs.declared.flavor.Flavor.{Flavor}
 use Rattle.masks.specs.Shape.{setFlavor}
-use Rattle.exports.proofs.ToldLaws.{value-told}
+use Rattle.exports.proofs.ReportsLaws.{value-reported}
 use Rattle.exports.proofs.shapes.thresholm_set_flavor.Statement.{statement}
 use Rattle.exports.proofs.shapes.thresholm_set_flavor.Tie as tie
 
@@ -18,8 +18,8 @@ flavor-from-requires c κs = search needs
 set-flavor-requires : tie.Need-set-flavor-requires
 set-flavor-requires c κs = search needs
 
-tell-requires : tie.Need-tell-requires
-tell-requires c κs = search needs
+report-requires : tie.Need-report-requires
+report-requires c κs = search needs
 
 same-length : tie.Need-same-length
 same-length c = search needs
@@ -27,7 +27,7 @@ same-length c = search needs
 returns : tie.Need-returns
 returns c =
     let given = c .before .before .before .before .before .before .before .before .before .before .before .before .before .before .args in
-    value-told (ap₂ (λ (s : Shape) (g : Flavor). setFlavor s g (given .a .now) (length (given .out .now))) (c .before .before .before .before .before .before .before .before .before .before .before .shape-from .ensures) (c .before .before .before .before .before .before .before .before .before .before .flavor-from .ensures)) (c .before .before .before .before .before .before .before .before .set-flavor .ensures) (c .tell .ensures)
+    value-reported (ap₂ (λ (s : Shape) (g : Flavor). setFlavor s g (given .a .now) (length (given .out .now))) (c .before .before .before .before .before .before .before .before .before .before .before .shape-from .ensures) (c .before .before .before .before .before .before .before .before .before .before .flavor-from .ensures)) (c .before .before .before .before .before .before .before .before .set-flavor .ensures) (c .report .ensures)
 
 pub thresholm-set-flavor-spec : {M : Type 1} → statement M
 thresholm-set-flavor-spec =
@@ -36,6 +36,6 @@ thresholm-set-flavor-spec =
     shape-from-requires
     flavor-from-requires
     set-flavor-requires
-    tell-requires
+    report-requires
     same-length
     returns)

@@ -8,12 +8,12 @@ use Rattle.exports.proofs.shapes.thresholm_shape_of.Tie as tie
 shape-from-requires : tie.Need-shape-from-requires
 shape-from-requires c κs = search needs
 
-tell-shape-requires : tie.Need-tell-shape-requires
-tell-shape-requires c κs = search needs
+report-shape-requires : tie.Need-report-shape-requires
+report-shape-requires c κs = search needs
 
 returns : tie.Need-returns
 returns c =
-    c .tell-shape .ensures ∙ ap shapeBytes (c .before .before .before .before .before .before .shape-from .ensures)
+    c .report-shape .ensures ∙ ap shapeBytes (c .before .before .before .before .before .before .shape-from .ensures)
 
 pub thresholm-shape-of-spec : {M : Type 1} → statement M
-thresholm-shape-of-spec = tie.close (tie.spec shape-from-requires tell-shape-requires returns)
+thresholm-shape-of-spec = tie.close (tie.spec shape-from-requires report-shape-requires returns)

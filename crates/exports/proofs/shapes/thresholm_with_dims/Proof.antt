@@ -13,14 +13,14 @@ shape-from-requires c κs = search needs
 with-dims-requires : tie.Need-with-dims-requires
 with-dims-requires c κs = search needs
 
-tell-shape-requires : tie.Need-tell-shape-requires
-tell-shape-requires c κs = search needs
+report-shape-requires : tie.Need-report-shape-requires
+report-shape-requires c κs = search needs
 
 returns : tie.Need-returns
 returns c =
     let given = c .before .before .before .before .before .before .before .before .args in
-    c .tell-shape .ensures ∙ ap shapeBytes (c .before .before .before .before .before .before .with-dims .ensures ∙ (ap (λ (s : Shape). withDims s (given .new-dims)) (c .before .before .before .before .before .before .before .shape-from .ensures)))
+    c .report-shape .ensures ∙ ap shapeBytes (c .before .before .before .before .before .before .with-dims .ensures ∙ (ap (λ (s : Shape). withDims s (given .new-dims)) (c .before .before .before .before .before .before .before .shape-from .ensures)))
 
 pub thresholm-with-dims-spec : {M : Type 1} → statement M
 thresholm-with-dims-spec =
-    tie.close (tie.spec shape-from-requires with-dims-requires tell-shape-requires returns)
+    tie.close (tie.spec shape-from-requires with-dims-requires report-shape-requires returns)

@@ -17,12 +17,12 @@ flavor-from-requires c κs = search needs
 with-flavor-requires : tie.Need-with-flavor-requires
 with-flavor-requires c κs = search needs
 
-tell-shape-requires : tie.Need-tell-shape-requires
-tell-shape-requires c κs = search needs
+report-shape-requires : tie.Need-report-shape-requires
+report-shape-requires c κs = search needs
 
 returns : tie.Need-returns
 returns c =
-    c .tell-shape .ensures ∙ ap shapeBytes (c .before .before .before .before .before .before .with-flavor .ensures ∙ (ap₂ (λ (s : Shape) (g : Flavor). withFlavor s g) (c .before .before .before .before .before .before .before .before .shape-from .ensures) (c .before .before .before .before .before .before .before .flavor-from .ensures)))
+    c .report-shape .ensures ∙ ap shapeBytes (c .before .before .before .before .before .before .with-flavor .ensures ∙ (ap₂ (λ (s : Shape) (g : Flavor). withFlavor s g) (c .before .before .before .before .before .before .before .before .shape-from .ensures) (c .before .before .before .before .before .before .before .flavor-from .ensures)))
 
 pub thresholm-with-flavor-spec : {M : Type 1} → statement M
 thresholm-with-flavor-spec =
@@ -31,5 +31,5 @@ thresholm-with-flavor-spec =
     shape-from-requires
     flavor-from-requires
     with-flavor-requires
-    tell-shape-requires
+    report-shape-requires
     returns)

@@ -4,7 +4,7 @@ use borrow.Author.Needs.{needs}
 use lib.ListN.{length}
 use Rattle.masks.specs.declared.shape.Shape.{Shape}
 use Rattle.masks.specs.Unpack.{unpackHalf}
-use Rattle.exports.proofs.ToldLaws.{list-told}
+use Rattle.exports.proofs.ReportsLaws.{list-reported}
 use Rattle.exports.proofs.unpack.thresholm_unpack_even.Statement.{statement}
 use Rattle.exports.proofs.unpack.thresholm_unpack_even.Tie as tie
 
@@ -14,8 +14,8 @@ shape-from-requires c κs = search needs
 unpack-even-requires : tie.Need-unpack-even-requires
 unpack-even-requires c κs = search needs
 
-tell-count-requires : tie.Need-tell-count-requires
-tell-count-requires c κs = search needs
+report-count-requires : tie.Need-report-count-requires
+report-count-requires c κs = search needs
 
 same-length : tie.Need-same-length
 same-length c = search needs
@@ -23,9 +23,9 @@ same-length c = search needs
 returns : tie.Need-returns
 returns c =
     let given = c .before .before .before .before .before .before .before .before .before .args in
-    list-told (ap (λ (s : Shape). unpackHalf 0 s (given .d) (given .a .now) (length (given .out .now))) (c .before .before .before .before .before .before .shape-from .ensures)) (c .before .before .before .before .unpack-even .ensures) (c .tell-count .ensures)
+    list-reported (ap (λ (s : Shape). unpackHalf 0 s (given .d) (given .a .now) (length (given .out .now))) (c .before .before .before .before .before .before .shape-from .ensures)) (c .before .before .before .before .unpack-even .ensures) (c .report-count .ensures)
 
 pub thresholm-unpack-even-spec : {M : Type 1} → statement M
 thresholm-unpack-even-spec =
     tie.close
-    (tie.spec shape-from-requires unpack-even-requires tell-count-requires same-length returns)
+    (tie.spec shape-from-requires unpack-even-requires report-count-requires same-length returns)

@@ -4,7 +4,7 @@ use borrow.Author.Needs.{needs}
 use lib.ListN.{length}
 use Rattle.masks.specs.declared.shape.Shape.{Shape}
 use Rattle.masks.specs.Unpack.{unpackOwnHalf}
-use Rattle.exports.proofs.ToldLaws.{list-told}
+use Rattle.exports.proofs.ReportsLaws.{list-reported}
 use Rattle.exports.proofs.unpack.thresholm_unpack_own_even.Statement.{statement}
 use Rattle.exports.proofs.unpack.thresholm_unpack_own_even.Tie as tie
 
@@ -14,8 +14,8 @@ shape-from-requires c κs = search needs
 unpack-own-even-requires : tie.Need-unpack-own-even-requires
 unpack-own-even-requires c κs = search needs
 
-tell-count-requires : tie.Need-tell-count-requires
-tell-count-requires c κs = search needs
+report-count-requires : tie.Need-report-count-requires
+report-count-requires c κs = search needs
 
 same-length : tie.Need-same-length
 same-length c = search needs
@@ -23,9 +23,9 @@ same-length c = search needs
 returns : tie.Need-returns
 returns c =
     let given = c .before .before .before .before .before .before .before .before .before .args in
-    list-told (ap (λ (s : Shape). unpackOwnHalf 0 s (given .a .now) (length (given .out .now))) (c .before .before .before .before .before .before .shape-from .ensures)) (c .before .before .before .before .unpack-own-even .ensures) (c .tell-count .ensures)
+    list-reported (ap (λ (s : Shape). unpackOwnHalf 0 s (given .a .now) (length (given .out .now))) (c .before .before .before .before .before .before .shape-from .ensures)) (c .before .before .before .before .unpack-own-even .ensures) (c .report-count .ensures)
 
 pub thresholm-unpack-own-even-spec : {M : Type 1} → statement M
 thresholm-unpack-own-even-spec =
     tie.close
-    (tie.spec shape-from-requires unpack-own-even-requires tell-count-requires same-length returns)
+    (tie.spec shape-from-requires unpack-own-even-requires report-count-requires same-length returns)

@@ -4,7 +4,7 @@ use borrow.Author.Needs.{needs}
 use lib.ListN.{length}
 use Rattle.masks.specs.declared.shape.Shape.{Shape}
 use Rattle.arithmetic.specs.Dual.{dual}
-use Rattle.exports.proofs.ToldLaws.{value-told}
+use Rattle.exports.proofs.ReportsLaws.{value-reported}
 use Rattle.exports.proofs.values.thresholm_dual.Statement.{statement}
 use Rattle.exports.proofs.values.thresholm_dual.Tie as tie
 
@@ -14,8 +14,8 @@ shape-from-requires c κs = search needs
 dual-requires : tie.Need-dual-requires
 dual-requires c κs = search needs
 
-tell-requires : tie.Need-tell-requires
-tell-requires c κs = search needs
+report-requires : tie.Need-report-requires
+report-requires c κs = search needs
 
 same-length : tie.Need-same-length
 same-length c = search needs
@@ -23,8 +23,8 @@ same-length c = search needs
 returns : tie.Need-returns
 returns c =
     let given = c .before .before .before .before .before .before .before .before .before .before .before .before .before .args in
-    value-told (ap (λ (s : Shape). dual s (given .a .now) (length (given .out .now))) (c .before .before .before .before .before .before .before .before .before .before .shape-from .ensures)) (c .before .before .before .before .before .before .before .before .dual .ensures) (c .tell .ensures)
+    value-reported (ap (λ (s : Shape). dual s (given .a .now) (length (given .out .now))) (c .before .before .before .before .before .before .before .before .before .before .shape-from .ensures)) (c .before .before .before .before .before .before .before .before .dual .ensures) (c .report .ensures)
 
 pub thresholm-dual-spec : {M : Type 1} → statement M
 thresholm-dual-spec =
-    tie.close (tie.spec shape-from-requires dual-requires tell-requires same-length returns)
+    tie.close (tie.spec shape-from-requires dual-requires report-requires same-length returns)

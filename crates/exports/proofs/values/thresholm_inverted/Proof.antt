@@ -4,7 +4,7 @@ use borrow.Author.Needs.{needs}
 use lib.ListN.{length}
 use Rattle.masks.specs.declared.shape.Shape.{Shape}
 use Rattle.arithmetic.specs.Inverse.{inverse}
-use Rattle.exports.proofs.ToldLaws.{value-told}
+use Rattle.exports.proofs.ReportsLaws.{value-reported}
 use Rattle.exports.proofs.values.thresholm_inverted.Statement.{statement}
 use Rattle.exports.proofs.values.thresholm_inverted.Tie as tie
 
@@ -14,8 +14,8 @@ shape-from-requires c κs = search needs
 inverted-requires : tie.Need-inverted-requires
 inverted-requires c κs = search needs
 
-tell-requires : tie.Need-tell-requires
-tell-requires c κs = search needs
+report-requires : tie.Need-report-requires
+report-requires c κs = search needs
 
 same-length : tie.Need-same-length
 same-length c = search needs
@@ -23,8 +23,8 @@ same-length c = search needs
 returns : tie.Need-returns
 returns c =
     let given = c .before .before .before .before .before .before .before .before .before .before .before .before .before .args in
-    value-told (ap (λ (s : Shape). inverse s (given .a .now) (length (given .out .now))) (c .before .before .before .before .before .before .before .before .before .before .shape-from .ensures)) (c .before .before .before .before .before .before .before .before .inverted .ensures) (c .tell .ensures)
+    value-reported (ap (λ (s : Shape). inverse s (given .a .now) (length (given .out .now))) (c .before .before .before .before .before .before .before .before .before .before .shape-from .ensures)) (c .before .before .before .before .before .before .before .before .inverted .ensures) (c .report .ensures)
 
 pub thresholm-inverted-spec : {M : Type 1} → statement M
 thresholm-inverted-spec =
-    tie.close (tie.spec shape-from-requires inverted-requires tell-requires same-length returns)
+    tie.close (tie.spec shape-from-requires inverted-requires report-requires same-length returns)

@@ -4,7 +4,7 @@ use borrow.Author.Needs.{needs}
 use lib.ListN.{length}
 use Rattle.masks.specs.declared.shape.Shape.{Shape}
 use Rattle.arithmetic.specs.Kept.{makeScalarOnly}
-use Rattle.exports.proofs.ToldLaws.{value-told}
+use Rattle.exports.proofs.ReportsLaws.{value-reported}
 use Rattle.exports.proofs.values.thresholm_make_scalar_only.Statement.{statement}
 use Rattle.exports.proofs.values.thresholm_make_scalar_only.Tie as tie
 
@@ -14,8 +14,8 @@ shape-from-requires c κs = search needs
 make-scalar-only-requires : tie.Need-make-scalar-only-requires
 make-scalar-only-requires c κs = search needs
 
-tell-requires : tie.Need-tell-requires
-tell-requires c κs = search needs
+report-requires : tie.Need-report-requires
+report-requires c κs = search needs
 
 same-length : tie.Need-same-length
 same-length c = search needs
@@ -23,9 +23,9 @@ same-length c = search needs
 returns : tie.Need-returns
 returns c =
     let given = c .before .before .before .before .before .before .before .before .before .before .before .before .before .args in
-    value-told (ap (λ (s : Shape). makeScalarOnly s (given .a .now) (length (given .out .now))) (c .before .before .before .before .before .before .before .before .before .before .shape-from .ensures)) (c .before .before .before .before .before .before .before .before .make-scalar-only .ensures) (c .tell .ensures)
+    value-reported (ap (λ (s : Shape). makeScalarOnly s (given .a .now) (length (given .out .now))) (c .before .before .before .before .before .before .before .before .before .before .shape-from .ensures)) (c .before .before .before .before .before .before .before .before .make-scalar-only .ensures) (c .report .ensures)
 
 pub thresholm-make-scalar-only-spec : {M : Type 1} → statement M
 thresholm-make-scalar-only-spec =
     tie.close
-    (tie.spec shape-from-requires make-scalar-only-requires tell-requires same-length returns)
+    (tie.spec shape-from-requires make-scalar-only-requires report-requires same-length returns)

@@ -4,7 +4,7 @@ use borrow.Author.Needs.{needs}
 use lib.ListN.{length}
 use Rattle.masks.specs.declared.shape.Shape.{Shape}
 use Rattle.arithmetic.specs.Dual.{regressiveProduct}
-use Rattle.exports.proofs.ToldLaws.{value-told}
+use Rattle.exports.proofs.ReportsLaws.{value-reported}
 use Rattle.exports.proofs.values.thresholm_regressive_product.Statement.{statement}
 use Rattle.exports.proofs.values.thresholm_regressive_product.Tie as tie
 
@@ -17,8 +17,8 @@ shape-from-requires-2 c κs = search needs
 regressive-product-requires : tie.Need-regressive-product-requires
 regressive-product-requires c κs = search needs
 
-tell-requires : tie.Need-tell-requires
-tell-requires c κs = search needs
+report-requires : tie.Need-report-requires
+report-requires c κs = search needs
 
 same-length : tie.Need-same-length
 same-length c = search needs
@@ -26,7 +26,7 @@ same-length c = search needs
 returns : tie.Need-returns
 returns c =
     let given = c .before .before .before .before .before .before .before .before .before .before .before .before .before .before .before .args in
-    value-told (ap₂ (λ (s : Shape) (t : Shape). regressiveProduct s t (given .a .now) (given .b .now) (length (given .out .now))) (c .before .before .before .before .before .before .before .before .before .before .before .shape-from .ensures) (c .before .before .before .before .before .before .before .before .before .before .shape-from2 .ensures)) (c .before .before .before .before .before .before .before .before .regressive-product .ensures) (c .tell .ensures)
+    value-reported (ap₂ (λ (s : Shape) (t : Shape). regressiveProduct s t (given .a .now) (given .b .now) (length (given .out .now))) (c .before .before .before .before .before .before .before .before .before .before .before .shape-from .ensures) (c .before .before .before .before .before .before .before .before .before .before .shape-from2 .ensures)) (c .before .before .before .before .before .before .before .before .regressive-product .ensures) (c .report .ensures)
 
 pub thresholm-regressive-product-spec : {M : Type 1} → statement M
 thresholm-regressive-product-spec =
@@ -35,6 +35,6 @@ thresholm-regressive-product-spec =
     shape-from-requires
     shape-from-requires-2
     regressive-product-requires
-    tell-requires
+    report-requires
     same-length
     returns)

@@ -4,7 +4,7 @@ use borrow.Author.Needs.{needs}
 use lib.ListN.{length}
 use Rattle.masks.specs.declared.shape.Shape.{Shape}
 use Rattle.arithmetic.specs.Reverse.{reverse}
-use Rattle.exports.proofs.ToldLaws.{value-told}
+use Rattle.exports.proofs.ReportsLaws.{value-reported}
 use Rattle.exports.proofs.values.thresholm_reverse.Statement.{statement}
 use Rattle.exports.proofs.values.thresholm_reverse.Tie as tie
 
@@ -14,8 +14,8 @@ shape-from-requires c κs = search needs
 reverse-requires : tie.Need-reverse-requires
 reverse-requires c κs = search needs
 
-tell-requires : tie.Need-tell-requires
-tell-requires c κs = search needs
+report-requires : tie.Need-report-requires
+report-requires c κs = search needs
 
 same-length : tie.Need-same-length
 same-length c = search needs
@@ -23,8 +23,8 @@ same-length c = search needs
 returns : tie.Need-returns
 returns c =
     let given = c .before .before .before .before .before .before .before .before .before .before .before .before .before .args in
-    value-told (ap (λ (s : Shape). reverse s (given .a .now) (length (given .out .now))) (c .before .before .before .before .before .before .before .before .before .before .shape-from .ensures)) (c .before .before .before .before .before .before .before .before .reverse .ensures) (c .tell .ensures)
+    value-reported (ap (λ (s : Shape). reverse s (given .a .now) (length (given .out .now))) (c .before .before .before .before .before .before .before .before .before .before .shape-from .ensures)) (c .before .before .before .before .before .before .before .before .reverse .ensures) (c .report .ensures)
 
 pub thresholm-reverse-spec : {M : Type 1} → statement M
 thresholm-reverse-spec =
-    tie.close (tie.spec shape-from-requires reverse-requires tell-requires same-length returns)
+    tie.close (tie.spec shape-from-requires reverse-requires report-requires same-length returns)

@@ -3,8 +3,8 @@ use mathlib.Core.Path.{ap, _∙_}
 use borrow.Author.Needs.{needs}
 use Rattle.masks.specs.declared.shape.Shape.{Shape}
 use Rattle.arithmetic.specs.Scalar.{scalarTest}
-use Rattle.exports.specs.Told.{TellsTest}
-use Rattle.exports.proofs.ToldLaws.{same-told}
+use Rattle.exports.specs.Reports.{ReportsTest}
+use Rattle.exports.proofs.ReportsLaws.{same-reported}
 use Rattle.exports.proofs.values.thresholm_scalar_test.Statement.{statement}
 use Rattle.exports.proofs.values.thresholm_scalar_test.Tie as tie
 
@@ -14,14 +14,14 @@ shape-from-requires c κs = search needs
 scalar-test-requires : tie.Need-scalar-test-requires
 scalar-test-requires c κs = search needs
 
-tell-test-requires : tie.Need-tell-test-requires
-tell-test-requires c κs = search needs
+report-test-requires : tie.Need-report-test-requires
+report-test-requires c κs = search needs
 
 returns : tie.Need-returns
 returns c =
     let given = c .before .before .before .before .before .before .before .args in
-    same-told TellsTest (c .before .before .before .before .scalar-test .ensures ∙ (ap (λ (s : Shape). scalarTest s (given .a .now)) (c .before .before .before .before .before .shape-from .ensures))) (c .tell-test .ensures)
+    same-reported ReportsTest (c .before .before .before .before .scalar-test .ensures ∙ (ap (λ (s : Shape). scalarTest s (given .a .now)) (c .before .before .before .before .before .shape-from .ensures))) (c .report-test .ensures)
 
 pub thresholm-scalar-test-spec : {M : Type 1} → statement M
 thresholm-scalar-test-spec =
-    tie.close (tie.spec shape-from-requires scalar-test-requires tell-test-requires returns)
+    tie.close (tie.spec shape-from-requires scalar-test-requires report-test-requires returns)

@@ -1,18 +1,16 @@
 -- `sheets::shapes::any_above_nine` meets its contract. The invariant: none of the first i shapes is above nine. Assumes nothing.
 use mathlib.Core.Path.{_≡_, refl, sym, ap, _∙_}
 use mathlib.Core.Bool.{true, false}
-use mathlib.Core.List.{List, [], _∷_}
-use Prim.Native.Nat.{ℕ, _+_, _-_, _≤_, _<_}
-use native.Mathlib.Numerals.{add-one}
+use mathlib.Core.List.{List}
+use Prim.Native.Nat.{ℕ, _-_, _≤_, _<_}
 use native.Mathlib.Omega.{arith}
 use lib.ListN.{length, getD, take, length-map}
-use lib.Seq.{length-take-le, take-suc, getD-take}
-use borrow.Author.Tests.{le-ltb}
+use lib.Seq.{length-take-le, getD-take}
 use Rattle.masks.specs.declared.flavor.Flavor.the-variants.{Vanilla}
 use Rattle.masks.specs.declared.shape.Shape.{Shape}
 use Rattle.masks.specs.Outcome.{shapeOf}
 use Rattle.sheets.specs.Format.{anyAboveNine}
-use Rattle.sheets.proofs.FormatLaws.{above-append, above-at}
+use Rattle.sheets.proofs.FormatLaws.{above-next, above-at}
 use Rattle.sheets.proofs.shapes.any_above_nine.Statement.{statement}
 use Rattle.sheets.proofs.shapes.any_above_nine.Tie as tie
 
@@ -20,10 +18,6 @@ abbrev at : List Shape → ℕ → Shape
 at ss i = getD ss i (shapeOf 0 Vanilla)
 
 module _ (ss : List Shape) (i : ℕ) where
-  none-next : i < length ss → at ss i .dims ≤ 9 → anyAboveNine (take i ss) ≡ false → anyAboveNine (take (i + 1) ss) ≡ false
-  unfolding anyAboveNine
-  none-next h l e = rw (add-one i, take-suc ss i (shapeOf 0 Vanilla) h, above-append (take i ss) (at ss i ∷ []), e, le-ltb 9 (at ss i .dims) l)
-
   one-above : (n : ℕ) → i < n → n ≤ length ss → 9 < at ss i .dims → true ≡ anyAboveNine (take n ss)
   one-above n h l g =
       sym (above-at i (take n ss) (omega (arith, length-take-le n ss l)) (rw (getD-take n ss i (shapeOf 0 Vanilla) h) g))
@@ -63,7 +57,7 @@ loop-again : tie.Need-loop-again Inv-loop μ-loop
 loop-again c =
     let s = c .before .before .before .before .before in
     let l = c .before .before .before .before .loop in
-    (omega arith, none-next (s .args .t1 .held) (l .i) (omega (arith, held-length s)) (c .if1 .left) (l .inv .1))
+    (omega arith, above-next (s .args .t1 .held) (l .i) (omega (arith, held-length s)) (c .if1 .left) (l .inv .1))
 
 returns-2 : tie.Need-returns-2 Inv-loop μ-loop
 returns-2 c =

@@ -1,0 +1,12 @@
+-- In the lists of tests that calls on bytes have of their own the numbers rise, so that the lowest that applies is given (`refused-lowest` of masks). Assumes nothing.
+use mathlib.Core.List.{List}
+use Prim.Native.Nat.{ℕ}
+use lib.Dec.{T}
+use Rattle.masks.proofs.Lowest.{rises}
+use Rattle.exports.specs.Sheet.{writeFromTests, valueFromTests}
+
+pub write-from-rises : (b xs : List ℕ) (room : ℕ) → T (rises 1 (writeFromTests b xs room))
+write-from-rises b xs room = tt
+
+pub value-from-rises : (b : List ℕ) (i : ℕ) → T (rises 1 (valueFromTests b i))
+value-from-rises b i = tt

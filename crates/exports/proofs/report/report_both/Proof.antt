@@ -1,0 +1,25 @@
+-- `exports::report::report_both` meets its contract. Assumes nothing.
+use mathlib.Core.Path.{ap₂}
+use mathlib.Core.List.{List, _++_}
+use borrow.Author.Needs.{needs}
+use Prim.Native.Nat.{ℕ}
+use Rattle.exports.proofs.ReportsLaws.{kept-reported, done-reported}
+use Rattle.exports.proofs.report.report_both.Statement.{statement}
+use Rattle.exports.proofs.report.report_both.Tie as tie
+
+returns : tie.Need-returns
+returns c =
+    kept-reported (c .before .args .answers .number) (c .if1 .taken)
+
+report-shape-requires : tie.Need-report-shape-requires
+report-shape-requires c κs = search needs
+
+report-shape-requires-2 : tie.Need-report-shape-requires-2
+report-shape-requires-2 c κs = search needs
+
+returns-2 : tie.Need-returns-2
+returns-2 c =
+    done-reported (c .before .before .before .before .before .before .before .before .before .before .before .before .before .args .answers .number) (c .before .before .before .before .before .before .before .before .before .before .before .before .if1 .left) (ap₂ (λ (s t : List ℕ). s ++ t) (c .before .before .before .before .before .before .report-shape .ensures) (c .report-shape2 .ensures))
+
+pub report-both-spec : {M : Type 1} → statement M
+report-both-spec = tie.close (tie.spec returns report-shape-requires report-shape-requires-2 returns-2)

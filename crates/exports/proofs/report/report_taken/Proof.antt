@@ -1,0 +1,22 @@
+-- `exports::report::report_taken` meets its contract. Assumes nothing.
+use mathlib.Core.Path.{ap}
+use mathlib.Core.List.{List}
+use borrow.Author.Needs.{needs}
+use Prim.Native.Nat.{ℕ}
+use Rattle.exports.proofs.ReportsLaws.{kept-reported, done-reported}
+use Rattle.exports.proofs.report.report_taken.Statement.{statement}
+use Rattle.exports.proofs.report.report_taken.Tie as tie
+
+returns : tie.Need-returns
+returns c =
+    kept-reported (c .before .args .taken .number) (c .if1 .taken)
+
+report-shape-requires : tie.Need-report-shape-requires
+report-shape-requires c κs = search needs
+
+returns-2 : tie.Need-returns-2
+returns-2 c =
+    done-reported (c .before .before .before .before .before .before .before .args .taken .number) (c .before .before .before .before .before .before .if1 .left) (ap (λ (s : List ℕ). (s, c .before .before .before .before .before .before .before .args .taken .value)) (c .report-shape .ensures))
+
+pub report-taken-spec : {M : Type 1} → statement M
+report-taken-spec = tie.close (tie.spec returns report-shape-requires returns-2)
