@@ -119,8 +119,9 @@ uint8_t thresholm_write_to(uint8_t kind, uint8_t p, uint8_t n, uint8_t z, uint8_
 
 /* ---- The order of masks. */
 
-/* How many blades there are: 2^dims, and 0 where dims is above 9. Never refused. */
-size_t thresholm_blade_count(uint8_t dims);
+/* How many blades there are: 2^dims.
+ * 1: dims above 9. */
+uint8_t thresholm_blade_count(uint8_t dims, size_t *to_count);
 
 /* The size of a grade: the binomial number, 0 for a grade above the dimensions.
  * 1: dims above 9. */
@@ -479,15 +480,15 @@ uint8_t thresholm_read(const uint8_t *bytes, size_t bytes_len, uint64_t *out, si
 
 /* Writes a sheet: to_count gets its bytes, 6 and five for each shape and eight for each pattern. out: as many, at most
  * 33,094.
- * 1: a listed shape has dimensions above 9. 2: shapes_len is not a multiple of 5, there are more than 64 shapes or
- * 4,096 patterns, or patterns_len not the sum of the 2^dims. 3: out_len below the bytes. */
+ * 1: a listed shape has dimensions above 9, also past the 64th. 2: shapes_len is not a multiple of 5, there are more
+ * than 64 shapes or 4,096 patterns, or patterns_len not the sum of the 2^dims. 3: out_len below the bytes. */
 uint8_t thresholm_write(const uint8_t *shapes, size_t shapes_len, const uint64_t *patterns, size_t patterns_len,
     uint8_t *out, size_t out_len, size_t *to_count);
 
 /* The shape of the value at an index of a sheet, 0 being the first, and the place among the patterns at which its own
  * 2^dims start.
- * 1: a listed shape has dimensions above 9, at every index. 2: shapes_len is not a multiple of 5, or index not below
- * the number of shapes, or not below 64. */
+ * 1: a listed shape has dimensions above 9, also past the 64th, at every index. 2: shapes_len is not a multiple of 5,
+ * or index not below the number of shapes, or not below 64. */
 uint8_t thresholm_value_at(const uint8_t *shapes, size_t shapes_len, size_t index,
     uint8_t *to_dims, uint8_t *to_kind, uint8_t *to_p, uint8_t *to_n, uint8_t *to_z, size_t *to_start);
 

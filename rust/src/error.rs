@@ -80,7 +80,7 @@ impl Error {
     }
 
     /// What a call has answered with its number. No call answers with a number above 9.
-    pub(crate) fn told<T>(number: u8, result: T) -> Result<T, Error> {
+    pub(crate) fn reported<T>(number: u8, result: T) -> Result<T, Error> {
         match number {
             0 => Ok(result),
             _ => Err(Error::from_number(number).unwrap_or(Error::Malformed)),

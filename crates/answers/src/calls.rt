@@ -60,17 +60,19 @@ fn grade_size(ins: &[u64; 16], outs: &mut [u64; 16]) -> usize {
 }
 
 fn blade_count(ins: &[u64; 16], outs: &mut [u64; 16]) -> usize {
-    outs[0] = order::blade_count(byte(ins[0])).count as u64;
-    1
+    put_count(order::blade_count(byte(ins[0])), outs)
 }
 
 fn order_of(ins: &[u64; 16], out: &mut [f64], right: &mut [f64], outs: &mut [u64; 16]) -> usize {
     let given = order::order_of(byte(ins[0]));
     let o = given.order;
-    put_masks(&o.masks, out);
-    put_masks(&o.places, right);
-    outs[0] = o.dims as u64;
-    1
+    outs[0] = given.number as u64;
+    outs[1] = o.dims as u64;
+    if given.number == 0 {
+        put_masks(&o.masks, out);
+        put_masks(&o.places, right);
+    }
+    2
 }
 
 fn metric(ins: &[u64; 16], outs: &mut [u64; 16]) -> usize {

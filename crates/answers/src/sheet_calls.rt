@@ -1,5 +1,5 @@
 // The calls of the crate `sheets`: each is made as its line says, and what comes out is held against the answer that the
-// line gives. Bytes, patterns and numbers stand in space that is lent.
+// line gives. Bytes, patterns and numbers stand in the caller's space.
 use super::compare::at_most;
 use super::compare::fill;
 use super::compare::same_numbers;
@@ -19,7 +19,7 @@ use super::words::word_at;
 use sheets::patterns;
 use sheets::read;
 use sheets::read::SheetRead;
-use sheets::shapes;
+use sheets::values;
 use sheets::write;
 
 // How many words the answer of a read has: three, and five for each shape that is held.
@@ -84,7 +84,7 @@ fn value_at_agrees(t: &[u8], at: usize, count: usize, index: usize) -> bool {
     let second = word_at(t, first.next);
     let room = word_at(t, second.next);
     let held = first.shapes;
-    let r = shapes::value_at(held, index);
+    let r = values::value_at(held, index);
     let shape = r.shape;
     let mut outs = [0u64; 16];
     outs[0] = r.number as u64;

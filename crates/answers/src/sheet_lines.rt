@@ -1,4 +1,4 @@
-// The lists of a sheet's line, which are long: read into space that is lent, marked before a call, and held against what
+// The lists of a sheet's line, which are long: read into the caller's space, marked before a call, and held against what
 // the line gives.
 use super::compare::MARK;
 use super::compare::at_most;

@@ -11,5 +11,4 @@ pub mod PowerLaws
 pub mod AccuracyLaws
 pub mod AccuracyExamples
 pub mod CompareLaws
-pub mod Table
 pub mod Lowest

@@ -1,9 +1,13 @@
--- In the lists of tests that calls on bytes have of their own the numbers rise, so that the lowest that applies is given (`refused-lowest` of masks). Assumes nothing.
+-- In the lists of tests that the exports have of their own the numbers rise, so that the lowest that applies is given (`refused-lowest` of masks). Assumes nothing.
 use mathlib.Core.List.{List}
 use Prim.Native.Nat.{ℕ}
 use lib.Dec.{T}
 use Rattle.masks.proofs.Lowest.{rises}
+use Rattle.exports.specs.Order.{orderOfTests}
 use Rattle.exports.specs.Sheet.{writeFromTests, valueFromTests}
+
+pub order-of-rises : (d room roomRight : ℕ) → T (rises 1 (orderOfTests d room roomRight))
+order-of-rises d room roomRight = tt
 
 pub write-from-rises : (b xs : List ℕ) (room : ℕ) → T (rises 1 (writeFromTests b xs room))
 write-from-rises b xs room = tt

@@ -46,6 +46,6 @@ one-order {d} {before = before} {beforeRight = beforeRight} t u =
     let q = one-reported (t .reports) (u .reports) in (
       q .0,
       q .1,
-      t .left ∙ ap (λ (k : ℕ). laid (unless (λ _. []) k (order (taken d))) before) (q .0) ∙ sym (u .left),
-      t .right ∙ ap (λ (k : ℕ). laid (unless (λ _. []) k (map (place (taken d)) (upFrom 0 (2 ^ taken d)))) beforeRight) (q .0) ∙ sym (u .right),
+      t .left ∙ ap (λ (k : ℕ). laid (unless (λ _. []) k (order d)) before) (q .0) ∙ sym (u .left),
+      t .right ∙ ap (λ (k : ℕ). laid (unless (λ _. []) k (map (place d) (upFrom 0 (2 ^ d)))) beforeRight) (q .0) ∙ sym (u .right),
     )

@@ -19,8 +19,8 @@ use Rattle.sheets.specs.Bytes.{littleEndian, allBytes, section}
 use Rattle.sheets.specs.Format.{Sheet, anyAboveNine, aboveNine, limits, shapeBytes, patternBytes, sheetBytes}
 use Rattle.sheets.specs.Read.{shapeFrom, saidShapes, readSheet, Reads}
 use Rattle.sheets.specs.Shapes.{listedShapes, shapesOf}
-use Rattle.sheets.specs.Values.{valueTests, valueAt, placedAt, refusedPlace}
-use Rattle.sheets.specs.Write.{writeTests, writeSheet}
+use Rattle.sheets.specs.Values.{valueAtTests, valueAt, placedAt, refusedPlace}
+use Rattle.sheets.specs.Write.{writeSheetTests, writeSheet}
 use Rattle.sheets.proofs.BytesLaws.{littleEndian-length, allBytes-length}
 use Rattle.sheets.proofs.FormatLaws.{shapeBytes-length, above-take}
 use Rattle.sheets.proofs.ShapesLaws.{listed-first, listed-shapesOf}
@@ -100,8 +100,8 @@ module _ (b : List ℕ) (e : refusal (listTests b) ≡ 0) where
   pub value-done : (i : ℕ) → valueAt (shapesOf (saidShapes b)) i ≡ valueFrom b i
   unfolding valueAt valueFrom
   value-done i =
-      ap (λ (ss : List Shape). unless refusedPlace (refusal (valueTests ss i)) (placedAt ss i)) (listed-first (saidShapes b))
-      ∙ ap (λ (k : ℕ). unless refusedPlace k (placedAt (firstShapes b) i)) (sym (refused-later _ _ small ∙ rest-same (valueTests (firstShapes b) i) (notFives b ∷ []) [] (λ q. refused-later (notFives b) [] fives)))
+      ap (λ (ss : List Shape). unless refusedPlace (refusal (valueAtTests ss i)) (placedAt ss i)) (listed-first (saidShapes b))
+      ∙ ap (λ (k : ℕ). unless refusedPlace k (placedAt (firstShapes b) i)) (sym (refused-later _ _ small ∙ rest-same (valueAtTests (firstShapes b) i) (notFives b ∷ []) [] (λ q. refused-later (notFives b) [] fives)))
 
   -- Of no more than 64 shapes all are listed.
   few-written : (xs : List ℕ) (room : ℕ) → length (saidShapes b) ≤ 64 → writeSheet (shapesOf (saidShapes b)) xs room ≡ writeFrom b xs room

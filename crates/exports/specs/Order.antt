@@ -3,16 +3,16 @@ use mathlib.Core.Path.{_≡_}
 use mathlib.Core.List.{List, [], _∷_, map}
 use Prim.Native.Nat.{ℕ, _^_}
 use lib.ListN.{length}
-use Rattle.masks.specs.Order.{order, place, upFrom, taken}
-use Rattle.masks.specs.Outcome.{refusal, noRoom, unless, laid}
+use Rattle.masks.specs.Order.{order, place, upFrom}
+use Rattle.masks.specs.Outcome.{Test, refusal, tooMany, noRoom, unless, laid}
 use Rattle.exports.specs.Reports.{Reports}
 
--- 3: The output of the masks, or that of the places, is shorter than their number.
-unfoldable pub orderRefusal : ℕ → ℕ → ℕ → ℕ
-orderRefusal d room roomRight = refusal (noRoom room (2 ^ taken d) ∷ noRoom roomRight (2 ^ taken d) ∷ [])
+-- 1: The dimensions are above 9. 3: The output of the masks, or that of the places, is shorter than their number.
+abbrev pub orderOfTests : ℕ → ℕ → ℕ → List Test
+orderOfTests d room roomRight = tooMany d ∷ noRoom room (2 ^ d) ∷ noRoom roomRight (2 ^ d) ∷ []
 
--- The order of d dimensions and each mask's place in it, that of none where d is above 9, and their number.
+-- The order of d dimensions, each mask's place in it, and their number; where the call is refused, nothing.
 pub record ReportsOrderOf (d r : ℕ) (before after beforeRight afterRight : List ℕ) (held holds : ℕ) : Type 0 where
-  pub reports : Reports (orderRefusal d (length before) (length beforeRight)) (2 ^ taken d) r held holds
-  pub left : after ≡ laid (unless (λ _. []) r (order (taken d))) before
-  pub right : afterRight ≡ laid (unless (λ _. []) r (map (place (taken d)) (upFrom 0 (2 ^ taken d)))) beforeRight
+  pub reports : Reports (refusal (orderOfTests d (length before) (length beforeRight))) (2 ^ d) r held holds
+  pub left : after ≡ laid (unless (λ _. []) r (order d)) before
+  pub right : afterRight ≡ laid (unless (λ _. []) r (map (place d) (upFrom 0 (2 ^ d)))) beforeRight

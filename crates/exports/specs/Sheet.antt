@@ -12,7 +12,7 @@ use Rattle.sheets.specs.declared.read.SheetRead.{SheetRead}
 use Rattle.sheets.specs.Bytes.{allBytes}
 use Rattle.sheets.specs.Format.{Sheet, shapeBytes, sheetBytes, aboveNine, limits}
 use Rattle.sheets.specs.Read.{saidShapes, ReadOutcome, readOf}
-use Rattle.sheets.specs.Values.{valueTests, placedAt, refusedPlace}
+use Rattle.sheets.specs.Values.{valueAtTests, placedAt, refusedPlace}
 use Rattle.exports.specs.Reports.{Reports}
 
 -- 2: The length is not a multiple of five.
@@ -40,7 +40,7 @@ firstShapes b = take 64 (saidShapes b)
 
 -- 1: A dimension is above 9, past the 64th shape too. 2: So many shapes are not listed, or the length is not a multiple of five.
 abbrev pub valueFromTests : List ℕ → ℕ → List Test
-valueFromTests b i = aboveNine (saidShapes b) ∷ valueTests (firstShapes b) i ++ (notFives b ∷ [])
+valueFromTests b i = aboveNine (saidShapes b) ∷ valueAtTests (firstShapes b) i ++ (notFives b ∷ [])
 
 unfoldable pub valueFrom : List ℕ → ℕ → Placed
 valueFrom b i = unless refusedPlace (refusal (valueFromTests b i)) (placedAt (firstShapes b) i)

@@ -1,4 +1,4 @@
-// Equality and order, as the Rust has them.
+// Equality and order, as the reference has them.
 use super::numbers::shape_from;
 use super::report::report_order;
 use super::report::report_yes;

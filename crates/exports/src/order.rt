@@ -25,12 +25,12 @@ fn copy_masks(from: &[u16; 512], n: usize, to: &mut [u16])
     }
 }
 
-// How many blades there are, none where the dimensions are above 9.
+// How many blades there are.
 #[no_mangle]
-pub extern "C" fn thresholm_blade_count(dims: u8) -> usize
-    ensures { λ r. ⌜ r ≡ bladeCount dims .count ⌝ }
+pub extern "C" fn thresholm_blade_count(dims: u8, to_count: &mut usize) -> u8
+    ensures { λ r. ⌜ ReportsCount (bladeCount dims) r (now («to_count» .entry)) (now («to_count» .exit)) ⌝ }
 {
-    blade_count(dims).count
+    report_count(blade_count(dims), to_count)
 }
 
 // The size of a grade: 0 for a grade above the dimensions.
@@ -41,7 +41,7 @@ pub extern "C" fn thresholm_grade_size(dims: u8, grade: u8, to_count: &mut usize
     report_count(grade_size(dims, grade), to_count)
 }
 
-// The order of `dims` dimensions and the place of each mask in it, that of none where they are above 9, and how many there are.
+// The order of `dims` dimensions, the place of each mask in it, and how many there are.
 #[no_mangle]
 pub extern "C" fn thresholm_order_of(
     dims: u8,
@@ -52,8 +52,12 @@ pub extern "C" fn thresholm_order_of(
     ensures { λ r. ⌜ ReportsOrderOf dims r (now (masks .entry)) (now (masks .exit)) (now (places .entry)) (now (places .exit)) (now («to_count» .entry)) (now («to_count» .exit)) ⌝ }
 {
     let given = order_of(dims);
+    let number = given.number;
+    if number != DONE {
+        return number;
+    }
     let order = given.order;
-    let count = blade_count(order.dims).count;
+    let count = blade_count(dims).count;
     if masks.len() < count {
         return NO_ROOM;
     }

@@ -11,7 +11,6 @@ pub mod OrderPrecedes
 pub mod OrderSizes
 pub mod OutcomeLaws
 pub mod ShapeLaws
-pub mod Table
 pub mod TextBack
 pub mod TextLaws
 pub mod TextScan

@@ -8,21 +8,21 @@ use Rattle.masks.specs.declared.shape.Shape.{Shape}
 use Rattle.masks.specs.Outcome.{refusal}
 use Rattle.masks.proofs.Lowest.{rises}
 use Rattle.sheets.specs.declared.shapes.Shapes.{Shapes}
-use Rattle.sheets.specs.Read.{isSheetBytes, readTests}
-use Rattle.sheets.specs.Write.{writeTests}
-use Rattle.sheets.specs.Values.{valueTests}
+use Rattle.sheets.specs.Read.{isSheetBytes, readSheetTests}
+use Rattle.sheets.specs.Write.{writeSheetTests}
+use Rattle.sheets.specs.Values.{valueAtTests}
 use Rattle.sheets.specs.Patterns.{convertedTests}
 
-pub write-rises : (s : Shapes) (xs : List ℕ) (room : ℕ) → T (rises 1 (writeTests s xs room))
-write-rises s xs room = tt
+pub write-sheet-rises : (s : Shapes) (xs : List ℕ) (room : ℕ) → T (rises 1 (writeSheetTests s xs room))
+write-sheet-rises s xs room = tt
 
-pub value-rises : (ss : List Shape) (i : ℕ) → T (rises 1 (valueTests ss i))
-value-rises ss i = tt
+pub value-at-rises : (ss : List Shape) (i : ℕ) → T (rises 1 (valueAtTests ss i))
+value-at-rises ss i = tt
 
 pub converted-rises : {A : Type 0} (xs : List A) (room : ℕ) → T (rises 1 (convertedTests xs room))
 converted-rises xs room = tt
 
 -- Bytes that are no sheet's are refused with 9, whatever the room.
-pub read-nine-first : (b : List ℕ) (room : ℕ) → isSheetBytes b ≡ false → refusal (readTests b room) ≡ 9
+pub read-nine-first : (b : List ℕ) (room : ℕ) → isSheetBytes b ≡ false → refusal (readSheetTests b room) ≡ 9
 unfolding refusal
 read-nine-first b room e = rw e

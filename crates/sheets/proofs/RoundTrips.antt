@@ -20,8 +20,8 @@ use Rattle.sheets.specs.declared.shapes.Shapes.{Shapes}
 use Rattle.sheets.specs.Bytes.{fromLittleEndian, section, parts, itemsIn, afterSection}
 use Rattle.sheets.specs.Format.{Sheet, shapeBytes, patternBytes, sheetBytes, bladeTotal}
 use Rattle.sheets.specs.Shapes.{shapesOf, listedShapes}
-use Rattle.sheets.specs.Read.{shapeFrom, said, isSheet, isSheetBytes, malformed, ReadOutcome, readTests, readSheet, aSheet, refusedSheet, Reads}
-use Rattle.sheets.specs.Write.{sheetOf, writeTests, writeSheet}
+use Rattle.sheets.specs.Read.{shapeFrom, said, isSheet, isSheetBytes, malformed, ReadOutcome, readSheetTests, readSheet, aSheet, refusedSheet, Reads}
+use Rattle.sheets.specs.Write.{sheetOf, writeSheetTests, writeSheet}
 use Rattle.sheets.specs.inner.Checks.{checked}
 use Rattle.sheets.proofs.BytesLaws.{AreBytes, littleEndian-length, number-littleEndian, number-lt, take-bytes, drop-bytes, items-section, after-section}
 use Rattle.sheets.proofs.FormatLaws.{shapeBytes-length, shapeFrom-shapeBytes, same-refl, sheet-within, within-sheet}
@@ -44,7 +44,7 @@ number-same q e = sym (ap (λ (o : ReadOutcome). o .number) q) ∙ e
 taken : (b : List ℕ) (room : ℕ) → readSheet b room .number ≡ 0 → (isSheetBytes b ≡ true) × (readSheet b room ≡ aSheet (said b))
 unfolding readSheet
 taken b room e =
-    let k = sym (unless-number (λ (o : ReadOutcome). o .number) refusedSheet (refusal (readTests b room)) (aSheet (said b)) refl refl) ∙ e in
+    let k = sym (unless-number (λ (o : ReadOutcome). o .number) refusedSheet (refusal (readSheetTests b room)) (aSheet (said b)) refl refl) ∙ e in
     (not-false _ (past (malformed b) _ (λ q. omega arith) k .0), unless-done refusedSheet _ 0 _ (sym k) refl)
 
 -- Sound: what is read is a sheet within its limits, and the bytes are its bytes.
@@ -133,7 +133,7 @@ three-short b room e =
 pub read-of-written : (s : Shapes) (xs : List ℕ) (room room′ : ℕ) → length (s .held) ≡ 64 → ArePatterns xs → writeSheet s xs room .number ≡ 0 → length xs ≤ room′ → readSheet (writeSheet s xs room .items) room′ ≡ aSheet (sheetOf s xs)
 unfolding writeSheet
 read-of-written s xs room room′ e h w r =
-    let k = sym (unless-number (λ (o : Written ℕ). o .number) refusedList (refusal (writeTests s xs room)) (listed (sheetBytes (sheetOf s xs))) refl refl) ∙ w in
+    let k = sym (unless-number (λ (o : Written ℕ). o .number) refusedList (refusal (writeSheetTests s xs room)) (listed (sheetBytes (sheetOf s xs))) refl refl) ∙ w in
     let g = writable s xs room (room-same s xs room e ∙ k) .within in
     let l = listed-length s e (g .few) in
     let i = within-sheet (sheetOf s xs) (record { small = g .small; few = omega (arith, g .few); limited = g .limited; matched = g .matched }) in

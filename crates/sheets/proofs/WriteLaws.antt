@@ -15,7 +15,7 @@ use Rattle.sheets.specs.declared.shapes.Shapes.{Shapes}
 use Rattle.sheets.specs.Bytes.{littleEndian, allBytes, section}
 use Rattle.sheets.specs.Format.{shapeBytes, patternBytes, sheetBytes, limits}
 use Rattle.sheets.specs.Shapes.{listedShapes}
-use Rattle.sheets.specs.Write.{sheetOf, writeTests}
+use Rattle.sheets.specs.Write.{sheetOf, writeSheetTests}
 use Rattle.sheets.proofs.BytesLaws.{littleEndian-length, allBytes-length}
 use Rattle.sheets.proofs.ShapesLaws.{listed-length}
 use Rattle.sheets.proofs.FormatLaws as format
@@ -24,7 +24,7 @@ use Rattle.sheets.proofs.FormatLaws.{Within, shapeBytes-length, sheetBy
 -- ---- refusals
 
 -- the count of bytes that is tested is that of the sheet's bytes, where the tests before it pass
-pub room-same : (s : Shapes) (xs : List ℕ) (room : ℕ) → length (s .held) ≡ 64 → refusal (limits (s .count) (listedShapes s) (length xs) ++ (noRoom room (6 + 5 * s .count + 8 * length xs) ∷ [])) ≡ refusal (writeTests s xs room)
+pub room-same : (s : Shapes) (xs : List ℕ) (room : ℕ) → length (s .held) ≡ 64 → refusal (limits (s .count) (listedShapes s) (length xs) ++ (noRoom room (6 + 5 * s .count + 8 * length xs) ∷ [])) ≡ refusal (writeSheetTests s xs room)
 room-same s xs room e =
     rest-same (limits (s .count) (listedShapes s) (length xs)) _ _
     (λ p. ap (λ (k : ℕ). refusal (noRoom room k ∷ [])) (size (format.within (s .count) (listedShapes s) (length xs) p .few)))

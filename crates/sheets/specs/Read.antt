@@ -61,11 +61,11 @@ abbrev pub aSheet : Sheet → ReadOutcome
 aSheet s = record { number = 0; sheet = s }
 
 -- 9, then 3.
-abbrev pub readTests : List ℕ → ℕ → List Test
-readTests b room = malformed b ∷ noRoom room (length (said b .patterns)) ∷ []
+abbrev pub readSheetTests : List ℕ → ℕ → List Test
+readSheetTests b room = malformed b ∷ noRoom room (length (said b .patterns)) ∷ []
 
 unfoldable pub readSheet : List ℕ → ℕ → ReadOutcome
-readSheet b room = unless refusedSheet (refusal (readTests b room)) (aSheet (said b))
+readSheet b room = unless refusedSheet (refusal (readSheetTests b room)) (aSheet (said b))
 
 -- ---- as the answer
 

@@ -16,8 +16,8 @@ abbrev pub startOf : List Shape → ℕ → ℕ
 startOf ss i = bladeTotal (take i ss)
 
 -- 1: A dimension is above 9. 2: So many shapes are not listed.
-abbrev pub valueTests : List Shape → ℕ → List Test
-valueTests ss i = aboveNine ss ∷ record { fails = leb (length ss) i; number = 2 } ∷ []
+abbrev pub valueAtTests : List Shape → ℕ → List Test
+valueAtTests ss i = aboveNine ss ∷ record { fails = leb (length ss) i; number = 2 } ∷ []
 
 -- A refusal has its number, shape 0 Vanilla and 0.
 abbrev pub refusedPlace : ℕ → Placed
@@ -28,4 +28,4 @@ abbrev pub placedAt : List Shape → ℕ → Placed
 placedAt ss i = record { number = 0; shape = getD ss i (shapeOf 0 Vanilla); start = startOf ss i }
 
 unfoldable pub valueAt : Shapes → ℕ → Placed
-valueAt s i = unless refusedPlace (refusal (valueTests (listedShapes s) i)) (placedAt (listedShapes s) i)
+valueAt s i = unless refusedPlace (refusal (valueAtTests (listedShapes s) i)) (placedAt (listedShapes s) i)

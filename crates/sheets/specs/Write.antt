@@ -12,8 +12,8 @@ abbrev pub sheetOf : Shapes → List ℕ → Sheet
 sheetOf s xs = record { shapes = listedShapes s; patterns = xs }
 
 -- 1 and 2 by the limits, then 3.
-abbrev pub writeTests : Shapes → List ℕ → ℕ → List Test
-writeTests s xs room = limits (s .count) (listedShapes s) (length xs) ++ (noRoom room (length (sheetBytes (sheetOf s xs))) ∷ [])
+abbrev pub writeSheetTests : Shapes → List ℕ → ℕ → List Test
+writeSheetTests s xs room = limits (s .count) (listedShapes s) (length xs) ++ (noRoom room (length (sheetBytes (sheetOf s xs))) ∷ [])
 
 unfoldable pub writeSheet : Shapes → List ℕ → ℕ → Written ℕ
-writeSheet s xs room = unless refusedList (refusal (writeTests s xs room)) (listed (sheetBytes (sheetOf s xs)))
+writeSheet s xs room = unless refusedList (refusal (writeSheetTests s xs room)) (listed (sheetBytes (sheetOf s xs)))

@@ -1,5 +1,5 @@
 //! Single blades, and single grades.
-use super::{tell_number, tell_shape};
+use super::{reported_number, reported_shape};
 use crate::error::Error;
 use crate::shape::Shape;
 use crate::sys;
@@ -8,7 +8,7 @@ use crate::sys;
 pub fn get_blade(shape: Shape, mask: usize, a: &[f64]) -> Result<f64, Error> {
     let [dims, kind, p, n, z] = shape.to_bytes();
     // SAFETY: every pointer is of something that is borrowed for the call; see the module.
-    tell_number(|to_value| unsafe {
+    reported_number(|to_value| unsafe {
         sys::thresholm_get_blade(dims, kind, p, n, z, mask, a.as_ptr(), a.len(), to_value)
     })
 }
@@ -18,7 +18,7 @@ pub fn get_blade(shape: Shape, mask: usize, a: &[f64]) -> Result<f64, Error> {
 pub fn set_blade(shape: Shape, mask: usize, x: f64, a: &[f64], out: &mut [f64]) -> Result<Shape, Error> {
     let [dims, kind, p, n, z] = shape.to_bytes();
     // SAFETY: every pointer is of something that is borrowed for the call; see the module.
-    tell_shape(|[to_dims, to_kind, to_p, to_n, to_z]| unsafe {
+    reported_shape(|[to_dims, to_kind, to_p, to_n, to_z]| unsafe {
         sys::thresholm_set_blade(
             dims, kind, p, n, z, mask, x, a.as_ptr(), a.len(), out.as_mut_ptr(), out.len(),
             to_dims, to_kind, to_p, to_n, to_z,
@@ -31,7 +31,7 @@ pub fn grade_refusal(shape: Shape, grade: u8, a: &[f64]) -> Result<(), Error> {
     let [dims, kind, p, n, z] = shape.to_bytes();
     // SAFETY: the slice is borrowed for the call; see the module.
     let number = unsafe { sys::thresholm_grade_refusal(dims, kind, p, n, z, grade, a.as_ptr(), a.len()) };
-    Error::told(number, ())
+    Error::reported(number, ())
 }
 
 /// One grade of a value, as a part of the caller's own slice.
@@ -44,5 +44,5 @@ pub fn grade(shape: Shape, grade: u8, a: &[f64]) -> Result<&[f64], Error> {
         sys::thresholm_grade(dims, kind, p, n, z, grade, a.as_ptr(), a.len(), &mut start, &mut count)
     };
     let part = a.get(start..).and_then(|rest| rest.get(..count));
-    Error::told(number, part.unwrap_or_default())
+    Error::reported(number, part.unwrap_or_default())
 }

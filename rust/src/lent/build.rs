@@ -1,5 +1,5 @@
 //! Values from few numbers.
-use super::tell_shape;
+use super::reported_shape;
 use crate::error::Error;
 use crate::flavor::Flavor;
 use crate::shape::Shape;

@@ -17,7 +17,7 @@ pub fn eq(shape: Shape, right: Shape, a: &[f64], b: &[f64]) -> Result<bool, Erro
             a.as_ptr(), a.len(), b.as_ptr(), b.len(), &mut yes,
         )
     };
-    Error::told(number, yes != 0)
+    Error::reported(number, yes != 0)
 }
 
 /// The workstation's order. It is no order in the strict sense: it is not transitive.
@@ -33,5 +33,5 @@ pub fn cmp(shape: Shape, right: Shape, a: &[f64], b: &[f64]) -> Result<Ordering,
             a.as_ptr(), a.len(), b.as_ptr(), b.len(), &mut order,
         )
     };
-    Error::told(number, order.cmp(&0))
+    Error::reported(number, order.cmp(&0))
 }

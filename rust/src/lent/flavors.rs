@@ -1,5 +1,5 @@
 //! Flavors, and their text.
-use super::{tell_count, tell_flavor};
+use super::{reported_count, reported_flavor};
 use crate::error::Error;
 use crate::flavor::Flavor;
 use crate::sys;
@@ -43,7 +43,7 @@ pub fn promotion(flavor: Flavor, right: Flavor) -> u8 {
 /// The flavor that a text says. Bytes that are no text are refused with [`Error::NoFlavor`].
 pub fn try_from_str(text: &[u8]) -> Result<Flavor, Error> {
     // SAFETY: every pointer is of something that is borrowed for the call; see the module.
-    tell_flavor(|[to_kind, to_p, to_n, to_z]| unsafe {
+    reported_flavor(|[to_kind, to_p, to_n, to_z]| unsafe {
         sys::thresholm_try_from_str(text.as_ptr(), text.len(), to_kind, to_p, to_n, to_z)
     })
 }
@@ -52,5 +52,5 @@ pub fn try_from_str(text: &[u8]) -> Result<Flavor, Error> {
 pub fn write_to(flavor: Flavor, out: &mut [u8]) -> Result<usize, Error> {
     let [kind, p, n, z] = flavor.to_bytes();
     // SAFETY: every pointer is of something that is borrowed for the call; see the module.
-    tell_count(|to_count| unsafe { sys::thresholm_write_to(kind, p, n, z, out.as_mut_ptr(), out.len(), to_count) })
+    reported_count(|to_count| unsafe { sys::thresholm_write_to(kind, p, n, z, out.as_mut_ptr(), out.len(), to_count) })
 }

@@ -7,7 +7,7 @@ macro_rules! one_value {
         pub fn $name(shape: Shape, a: &[f64], out: &mut [f64]) -> Result<Shape, Error> {
             let [dims, kind, p, n, z] = shape.to_bytes();
             // SAFETY: every pointer is of something that is borrowed for the call; see the module.
-            tell_shape(|[to_dims, to_kind, to_p, to_n, to_z]| unsafe {
+            reported_shape(|[to_dims, to_kind, to_p, to_n, to_z]| unsafe {
                 sys::$call(
                     dims, kind, p, n, z, a.as_ptr(), a.len(), out.as_mut_ptr(), out.len(),
                     to_dims, to_kind, to_p, to_n, to_z,
@@ -24,7 +24,7 @@ macro_rules! one_value_by {
         pub fn $name(shape: Shape, $by: $type, a: &[f64], out: &mut [f64]) -> Result<Shape, Error> {
             let [dims, kind, p, n, z] = shape.to_bytes();
             // SAFETY: every pointer is of something that is borrowed for the call; see the module.
-            tell_shape(|[to_dims, to_kind, to_p, to_n, to_z]| unsafe {
+            reported_shape(|[to_dims, to_kind, to_p, to_n, to_z]| unsafe {
                 sys::$call(
                     dims, kind, p, n, z, $by, a.as_ptr(), a.len(), out.as_mut_ptr(), out.len(),
                     to_dims, to_kind, to_p, to_n, to_z,
@@ -42,7 +42,7 @@ macro_rules! two_values {
             let [dims, kind, p, n, z] = shape.to_bytes();
             let [dims_right, kind_right, p_right, n_right, z_right] = right.to_bytes();
             // SAFETY: every pointer is of something that is borrowed for the call; see the module.
-            tell_shape(|[to_dims, to_kind, to_p, to_n, to_z]| unsafe {
+            reported_shape(|[to_dims, to_kind, to_p, to_n, to_z]| unsafe {
                 sys::$call(
                     dims, kind, p, n, z, dims_right, kind_right, p_right, n_right, z_right,
                     a.as_ptr(), a.len(), b.as_ptr(), b.len(), out.as_mut_ptr(), out.len(),
@@ -62,14 +62,14 @@ macro_rules! two_values_paired {
             let [dims_right, kind_right, p_right, n_right, z_right] = right.to_bytes();
             let mut pairs = 0;
             // SAFETY: every pointer is of something that is borrowed for the call; see the module.
-            let told = tell_shape(|[to_dims, to_kind, to_p, to_n, to_z]| unsafe {
+            let reported = reported_shape(|[to_dims, to_kind, to_p, to_n, to_z]| unsafe {
                 sys::$call(
                     dims, kind, p, n, z, dims_right, kind_right, p_right, n_right, z_right,
                     a.as_ptr(), a.len(), b.as_ptr(), b.len(), out.as_mut_ptr(), out.len(),
                     to_dims, to_kind, to_p, to_n, to_z, &mut pairs,
                 )
             });
-            told.map(|shape| (shape, pairs))
+            reported.map(|shape| (shape, pairs))
         }
     };
 }
@@ -81,7 +81,7 @@ macro_rules! from_numbers {
         pub fn $name(v: &[f64], flavor: Flavor, out: &mut [f64]) -> Result<Shape, Error> {
             let [kind, p, n, z] = flavor.to_bytes();
             // SAFETY: every pointer is of something that is borrowed for the call; see the module.
-            tell_shape(|[to_dims, to_kind, to_p, to_n, to_z]| unsafe {
+            reported_shape(|[to_dims, to_kind, to_p, to_n, to_z]| unsafe {
                 sys::$call(
                     v.as_ptr(), v.len(), kind, p, n, z, out.as_mut_ptr(), out.len(),
                     to_dims, to_kind, to_p, to_n, to_z,
@@ -98,7 +98,7 @@ macro_rules! from_one_number {
         pub fn $name(dims: u8, x: f64, flavor: Flavor, out: &mut [f64]) -> Result<Shape, Error> {
             let [kind, p, n, z] = flavor.to_bytes();
             // SAFETY: every pointer is of something that is borrowed for the call; see the module.
-            tell_shape(|[to_dims, to_kind, to_p, to_n, to_z]| unsafe {
+            reported_shape(|[to_dims, to_kind, to_p, to_n, to_z]| unsafe {
                 sys::$call(
                     dims, x, kind, p, n, z, out.as_mut_ptr(), out.len(), to_dims, to_kind, to_p, to_n, to_z,
                 )
@@ -114,7 +114,7 @@ macro_rules! from_packing {
         pub fn $name(dims: u8, v: &[f64], flavor: Flavor, out: &mut [f64]) -> Result<Shape, Error> {
             let [kind, p, n, z] = flavor.to_bytes();
             // SAFETY: every pointer is of something that is borrowed for the call; see the module.
-            tell_shape(|[to_dims, to_kind, to_p, to_n, to_z]| unsafe {
+            reported_shape(|[to_dims, to_kind, to_p, to_n, to_z]| unsafe {
                 sys::$call(
                     dims, v.as_ptr(), v.len(), kind, p, n, z, out.as_mut_ptr(), out.len(),
                     to_dims, to_kind, to_p, to_n, to_z,
@@ -131,7 +131,7 @@ macro_rules! numbers_at {
         pub fn $name(shape: Shape, d: u8, a: &[f64], out: &mut [f64]) -> Result<usize, Error> {
             let [dims, kind, p, n, z] = shape.to_bytes();
             // SAFETY: every pointer is of something that is borrowed for the call; see the module.
-            tell_count(|to_count| unsafe {
+            reported_count(|to_count| unsafe {
                 sys::$call(
                     dims, kind, p, n, z, d, a.as_ptr(), a.len(), out.as_mut_ptr(), out.len(), to_count,
                 )
@@ -147,7 +147,7 @@ macro_rules! own_numbers {
         pub fn $name(shape: Shape, a: &[f64], out: &mut [f64]) -> Result<usize, Error> {
             let [dims, kind, p, n, z] = shape.to_bytes();
             // SAFETY: every pointer is of something that is borrowed for the call; see the module.
-            tell_count(|to_count| unsafe {
+            reported_count(|to_count| unsafe {
                 sys::$call(
                     dims, kind, p, n, z, a.as_ptr(), a.len(), out.as_mut_ptr(), out.len(), to_count,
                 )

@@ -54,29 +54,29 @@ use crate::flavor::Flavor;
 use crate::shape::Shape;
 
 /// Hands five numbers to a call that reports a shape in them.
-fn tell_shape(call: impl FnOnce([*mut u8; 5]) -> u8) -> Result<Shape, Error> {
+fn reported_shape(call: impl FnOnce([*mut u8; 5]) -> u8) -> Result<Shape, Error> {
     let mut to = [0; 5];
     let number = call(to.each_mut().map(std::ptr::from_mut));
-    Error::told(number, Shape::from_bytes(to))
+    Error::reported(number, Shape::from_bytes(to))
 }
 
 /// Hands four numbers to a call that reports a flavor in them.
-fn tell_flavor(call: impl FnOnce([*mut u8; 4]) -> u8) -> Result<Flavor, Error> {
+fn reported_flavor(call: impl FnOnce([*mut u8; 4]) -> u8) -> Result<Flavor, Error> {
     let mut to = [0; 4];
     let number = call(to.each_mut().map(std::ptr::from_mut));
-    Error::told(number, Flavor::from_bytes(to))
+    Error::reported(number, Flavor::from_bytes(to))
 }
 
 /// Hands a count to a call that reports one.
-fn tell_count(call: impl FnOnce(*mut usize) -> u8) -> Result<usize, Error> {
+fn reported_count(call: impl FnOnce(*mut usize) -> u8) -> Result<usize, Error> {
     let mut count = 0;
     let number = call(&mut count);
-    Error::told(number, count)
+    Error::reported(number, count)
 }
 
 /// Hands a number to a call that reports one.
-fn tell_number(call: impl FnOnce(*mut f64) -> u8) -> Result<f64, Error> {
+fn reported_number(call: impl FnOnce(*mut f64) -> u8) -> Result<f64, Error> {
     let mut value = 0.0;
     let number = call(&mut value);
-    Error::told(number, value)
+    Error::reported(number, value)
 }

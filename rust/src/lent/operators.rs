@@ -1,5 +1,5 @@
 //! The operators.
-use super::tell_shape;
+use super::reported_shape;
 use crate::error::Error;
 use crate::shape::Shape;
 use crate::sys;

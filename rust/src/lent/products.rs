@@ -1,5 +1,5 @@
 //! The five products. Each conforms both values, multiplies, snaps what is within 1e-14 of a whole number, and counts the contributing pairs.
-use super::tell_shape;
+use super::reported_shape;
 use crate::error::Error;
 use crate::shape::Shape;
 use crate::sys;

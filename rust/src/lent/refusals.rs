@@ -1,5 +1,5 @@
 //! The refusal numbers, and what a call answers with them.
-use super::tell_shape;
+use super::reported_shape;
 use crate::error::Error;
 use crate::shape::Shape;
 use crate::sys;
@@ -10,14 +10,14 @@ use crate::sys;
 pub fn refusal_of(dims: u8, result: u8, count: usize, room: usize, needed: usize) -> Result<(), Error> {
     // SAFETY: the call takes numbers alone.
     let number = unsafe { sys::thresholm_refusal_of(dims, result, count, room, needed) };
-    Error::told(number, ())
+    Error::reported(number, ())
 }
 
 /// The same where there is a value and no output.
 pub fn value_refusal(dims: u8, count: usize) -> Result<(), Error> {
     // SAFETY: the call takes numbers alone.
     let number = unsafe { sys::thresholm_value_refusal(dims, count) };
-    Error::told(number, ())
+    Error::reported(number, ())
 }
 
 /// The same for two values: the result stands in `result` dimensions and goes to `room`.
@@ -27,13 +27,13 @@ pub fn pair_refusal(
 ) -> Result<(), Error> {
     // SAFETY: the call takes numbers alone.
     let number = unsafe { sys::thresholm_pair_refusal(dims, other, result, count, count_right, room) };
-    Error::told(number, ())
+    Error::reported(number, ())
 }
 
 /// The answer of a call that is refused: the error that was given.
 pub fn refused(error: Error) -> Result<Shape, Error> {
     // SAFETY: every pointer is of a number that is borrowed for the call; see the module.
-    tell_shape(|[to_dims, to_kind, to_p, to_n, to_z]| unsafe {
+    reported_shape(|[to_dims, to_kind, to_p, to_n, to_z]| unsafe {
         sys::thresholm_refused(error.number(), to_dims, to_kind, to_p, to_n, to_z)
     })
 }
@@ -42,7 +42,7 @@ pub fn refused(error: Error) -> Result<Shape, Error> {
 pub fn done(shape: Shape) -> Result<Shape, Error> {
     let [dims, kind, p, n, z] = shape.to_bytes();
     // SAFETY: every pointer is of a number that is borrowed for the call; see the module.
-    tell_shape(|[to_dims, to_kind, to_p, to_n, to_z]| unsafe {
+    reported_shape(|[to_dims, to_kind, to_p, to_n, to_z]| unsafe {
         sys::thresholm_done(dims, kind, p, n, z, to_dims, to_kind, to_p, to_n, to_z)
     })
 }

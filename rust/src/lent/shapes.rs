@@ -1,12 +1,12 @@
 //! Shapes and their changes.
-use super::tell_shape;
+use super::reported_shape;
 use crate::error::Error;
 use crate::flavor::Flavor;
 use crate::shape::Shape;
 use crate::sys;
 
 /// Hands five numbers to a call that reports a shape in them and is never refused.
-fn tell_always(call: impl FnOnce([*mut u8; 5])) -> Shape {
+fn reported_always(call: impl FnOnce([*mut u8; 5])) -> Shape {
     let mut to = [0; 5];
     call(to.each_mut().map(std::ptr::from_mut));
     Shape::from_bytes(to)
@@ -16,7 +16,7 @@ fn tell_always(call: impl FnOnce([*mut u8; 5])) -> Shape {
 #[must_use]
 pub fn shape_of([dims, kind, p, n, z]: [u8; 5]) -> Shape {
     // SAFETY: every pointer is of a number that is borrowed for the call; see the module.
-    tell_always(|[to_dims, to_kind, to_p, to_n, to_z]| unsafe {
+    reported_always(|[to_dims, to_kind, to_p, to_n, to_z]| unsafe {
         sys::thresholm_shape_of(dims, kind, p, n, z, to_dims, to_kind, to_p, to_n, to_z);
     })
 }
@@ -26,7 +26,7 @@ pub fn shape_of([dims, kind, p, n, z]: [u8; 5]) -> Shape {
 pub fn with_dims(shape: Shape, new_dims: u8) -> Shape {
     let [dims, kind, p, n, z] = shape.to_bytes();
     // SAFETY: every pointer is of a number that is borrowed for the call; see the module.
-    tell_always(|[to_dims, to_kind, to_p, to_n, to_z]| unsafe {
+    reported_always(|[to_dims, to_kind, to_p, to_n, to_z]| unsafe {
         sys::thresholm_with_dims(dims, kind, p, n, z, new_dims, to_dims, to_kind, to_p, to_n, to_z);
     })
 }
@@ -38,7 +38,7 @@ pub fn with_flavor(shape: Shape, new_flavor: Flavor) -> Shape {
     let [dims, kind, p, n, z] = shape.to_bytes();
     let [new_kind, new_p, new_n, new_z] = new_flavor.to_bytes();
     // SAFETY: every pointer is of a number that is borrowed for the call; see the module.
-    tell_always(|[to_dims, to_kind, to_p, to_n, to_z]| unsafe {
+    reported_always(|[to_dims, to_kind, to_p, to_n, to_z]| unsafe {
         sys::thresholm_with_flavor(
             dims, kind, p, n, z, new_kind, new_p, new_n, new_z, to_dims, to_kind, to_p, to_n, to_z,
         );
@@ -56,7 +56,7 @@ pub fn set_flavor(shape: Shape, new_flavor: Flavor, a: &[f64], out: &mut [f64]) 
     let [dims, kind, p, n, z] = shape.to_bytes();
     let [new_kind, new_p, new_n, new_z] = new_flavor.to_bytes();
     // SAFETY: every pointer is of something that is borrowed for the call; see the module.
-    tell_shape(|[to_dims, to_kind, to_p, to_n, to_z]| unsafe {
+    reported_shape(|[to_dims, to_kind, to_p, to_n, to_z]| unsafe {
         sys::thresholm_set_flavor(
             dims, kind, p, n, z, new_kind, new_p, new_n, new_z, a.as_ptr(), a.len(), out.as_mut_ptr(), out.len(),
             to_dims, to_kind, to_p, to_n, to_z,
@@ -70,7 +70,7 @@ pub fn conform_to(shape: Shape, right: Shape, a: &[f64], out: &mut [f64]) -> Res
     let [dims, kind, p, n, z] = shape.to_bytes();
     let [dims_right, kind_right, p_right, n_right, z_right] = right.to_bytes();
     // SAFETY: every pointer is of something that is borrowed for the call; see the module.
-    tell_shape(|[to_dims, to_kind, to_p, to_n, to_z]| unsafe {
+    reported_shape(|[to_dims, to_kind, to_p, to_n, to_z]| unsafe {
         sys::thresholm_conform_to(
             dims, kind, p, n, z, dims_right, kind_right, p_right, n_right, z_right,
             a.as_ptr(), a.len(), out.as_mut_ptr(), out.len(), to_dims, to_kind, to_p, to_n, to_z,
@@ -88,7 +88,7 @@ pub fn conform(
     let mut to_right = [0; 5];
     let [to_dims_right, to_kind_right, to_p_right, to_n_right, to_z_right] = &mut to_right;
     // SAFETY: every pointer is of something that is borrowed for the call; see the module.
-    let told = tell_shape(|[to_dims, to_kind, to_p, to_n, to_z]| unsafe {
+    let reported = reported_shape(|[to_dims, to_kind, to_p, to_n, to_z]| unsafe {
         sys::thresholm_conform(
             dims, kind, p, n, z, dims_right, kind_right, p_right, n_right, z_right,
             a.as_ptr(), a.len(), b.as_ptr(), b.len(),
@@ -97,5 +97,5 @@ pub fn conform(
             to_dims_right, to_kind_right, to_p_right, to_n_right, to_z_right,
         )
     });
-    told.map(|shape| (shape, Shape::from_bytes(to_right)))
+    reported.map(|shape| (shape, Shape::from_bytes(to_right)))
 }

@@ -1,5 +1,5 @@
 //! The rig sheet. A list of shapes is a slice of bytes, five to a shape.
-use super::tell_count;
+use super::reported_count;
 use crate::error::Error;
 use crate::shape::Shape;
 use crate::sys;
@@ -13,14 +13,14 @@ pub fn read(bytes: &[u8], out: &mut [u64]) -> Result<(usize, usize), Error> {
     let number = unsafe {
         sys::thresholm_read(bytes.as_ptr(), bytes.len(), out.as_mut_ptr(), out.len(), &mut shapes, &mut count)
     };
-    Error::told(number, (shapes, count))
+    Error::reported(number, (shapes, count))
 }
 
 /// Writes the bytes of a sheet, and returns how many there are.
 #[rustfmt::skip]
 pub fn write(shapes: &[u8], patterns: &[u64], out: &mut [u8]) -> Result<usize, Error> {
     // SAFETY: every pointer is of something that is borrowed for the call; see the module.
-    tell_count(|to_count| unsafe {
+    reported_count(|to_count| unsafe {
         sys::thresholm_write(
             shapes.as_ptr(), shapes.len(), patterns.as_ptr(), patterns.len(), out.as_mut_ptr(), out.len(), to_count,
         )
@@ -38,14 +38,14 @@ pub fn value_at(shapes: &[u8], index: usize) -> Result<(Shape, usize), Error> {
             shapes.as_ptr(), shapes.len(), index, to_dims, to_kind, to_p, to_n, to_z, &mut start,
         )
     };
-    Error::told(number, (Shape::from_bytes(to), start))
+    Error::reported(number, (Shape::from_bytes(to), start))
 }
 
 /// The numbers of bit patterns, and how many there are. A NaN's pattern gives a NaN.
 #[rustfmt::skip]
 pub fn numbers_of(patterns: &[u64], out: &mut [f64]) -> Result<usize, Error> {
     // SAFETY: every pointer is of something that is borrowed for the call; see the module.
-    tell_count(|to_count| unsafe {
+    reported_count(|to_count| unsafe {
         sys::thresholm_numbers_of(patterns.as_ptr(), patterns.len(), out.as_mut_ptr(), out.len(), to_count)
     })
 }
@@ -54,7 +54,7 @@ pub fn numbers_of(patterns: &[u64], out: &mut [f64]) -> Result<usize, Error> {
 #[rustfmt::skip]
 pub fn patterns_of(numbers: &[f64], out: &mut [u64]) -> Result<usize, Error> {
     // SAFETY: every pointer is of something that is borrowed for the call; see the module.
-    tell_count(|to_count| unsafe {
+    reported_count(|to_count| unsafe {
         sys::thresholm_patterns_of(numbers.as_ptr(), numbers.len(), out.as_mut_ptr(), out.len(), to_count)
     })
 }

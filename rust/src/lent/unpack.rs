@@ -1,5 +1,5 @@
 //! Some numbers of a value, by mask.
-use super::tell_count;
+use super::reported_count;
 use crate::error::Error;
 use crate::shape::Shape;
 use crate::sys;

@@ -1,5 +1,5 @@
 //! Calls on one value, and the regressive product.
-use super::{tell_number, tell_shape};
+use super::{reported_number, reported_shape};
 use crate::error::Error;
 use crate::shape::Shape;
 use crate::sys;
@@ -42,7 +42,7 @@ one_value!(
 pub fn squared_magnitude(shape: Shape, a: &[f64]) -> Result<f64, Error> {
     let [dims, kind, p, n, z] = shape.to_bytes();
     // SAFETY: every pointer is of something that is borrowed for the call; see the module.
-    tell_number(|to_value| unsafe {
+    reported_number(|to_value| unsafe {
         sys::thresholm_squared_magnitude(dims, kind, p, n, z, a.as_ptr(), a.len(), to_value)
     })
 }
@@ -53,13 +53,13 @@ pub fn take_scalar(shape: Shape, a: &[f64], out: &mut [f64]) -> Result<(Shape, f
     let [dims, kind, p, n, z] = shape.to_bytes();
     let mut scalar = 0.0;
     // SAFETY: every pointer is of something that is borrowed for the call; see the module.
-    let told = tell_shape(|[to_dims, to_kind, to_p, to_n, to_z]| unsafe {
+    let reported = reported_shape(|[to_dims, to_kind, to_p, to_n, to_z]| unsafe {
         sys::thresholm_take_scalar(
             dims, kind, p, n, z, a.as_ptr(), a.len(), out.as_mut_ptr(), out.len(),
             to_dims, to_kind, to_p, to_n, to_z, &mut scalar,
         )
     });
-    told.map(|shape| (shape, scalar))
+    reported.map(|shape| (shape, scalar))
 }
 
 /// Scalar with its number, planar with a complex pair, or neither.
@@ -71,10 +71,10 @@ pub fn scalar_test(shape: Shape, a: &[f64]) -> Result<ScalarTest, Error> {
     let number = unsafe {
         sys::thresholm_scalar_test(dims, kind, p, n, z, a.as_ptr(), a.len(), &mut test, &mut re, &mut im)
     };
-    let told = match test {
+    let reported = match test {
         0 => ScalarTest::Scalar(re),
         1 => ScalarTest::Planar { re, im },
         _ => ScalarTest::Neither,
     };
-    Error::told(number, told)
+    Error::reported(number, reported)
 }

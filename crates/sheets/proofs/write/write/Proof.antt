@@ -12,7 +12,7 @@ use Rattle.sheets.specs.declared.shapes.Shapes.{Shapes}
 use Rattle.sheets.specs.Bytes.{littleEndian, allBytes}
 use Rattle.sheets.specs.Format.{shapeBytes, patternBytes, sheetBytes}
 use Rattle.sheets.specs.Shapes.{listedShapes}
-use Rattle.sheets.specs.Write.{sheetOf, writeTests, writeSheet}
+use Rattle.sheets.specs.Write.{sheetOf, writeSheetTests, writeSheet}
 use Rattle.sheets.proofs.FormatLaws.{sheetBytes-length}
 use Rattle.sheets.proofs.WriteLaws.{Writable, writable, room-same, written}
 use Rattle.sheets.proofs.ShapesLaws.{listed-length}
@@ -23,7 +23,7 @@ held-length : (c : tie.Start) → length (c .args .shapes .held) ≡ 64
 held-length c = sym (length-map (c .args .shapes .held) _) ∙ c .good .0 .1 .1 .1 .0 .1 .0 .1
 
 -- the number is that of the sheet's tests
-tested : (w : tie.After-write-refusal) → w .write-refusal .result ≡ refusal (writeTests (w .before .before .before .args .shapes) (w .before .before .before .args .patterns .now) (length (w .before .before .before .args .out .now)))
+tested : (w : tie.After-write-refusal) → w .write-refusal .result ≡ refusal (writeSheetTests (w .before .before .before .args .shapes) (w .before .before .before .args .patterns .now) (length (w .before .before .before .args .out .now)))
 tested w =
     let a = w .before .before .before .args in
     w .write-refusal .ensures ∙ room-same (a .shapes) (a .patterns .now) (length (a .out .now)) (held-length (w .before .before .before))
