@@ -13,7 +13,7 @@ use Rattle.masks.specs.declared.flavor.Flavor.the-variants.{Vanilla}
 use Rattle.masks.specs.declared.shape.Shape.{Shape}
 use Rattle.masks.specs.Outcome.{Test, refusal, unless, shapeOf, noRoom, refusedList, listed}
 use Rattle.masks.proofs.ListLaws.{split}
-use Rattle.masks.proofs.RefusalLaws.{past, rest-same, refused-later, unless-refused}
+use Rattle.masks.proofs.OutcomeLaws.{past, rest-same, refused-later, unless-refused}
 use Rattle.sheets.specs.declared.read.SheetRead.{SheetRead}
 use Rattle.sheets.specs.Bytes.{littleEndian, allBytes, section}
 use Rattle.sheets.specs.Format.{Sheet, anyAboveNine, aboveNine, limits, shapeBytes, patternBytes, sheetBytes}

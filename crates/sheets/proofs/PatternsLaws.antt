@@ -12,7 +12,7 @@ use lib.Ieee.Bits.{ofBits-toBits, toBits-ofBits, nanBits-is}
 use lib.ListN.{length, getD, set, length-map}
 use Rattle.masks.specs.Outcome.{refusal, Writes}
 use Rattle.masks.proofs.ListLaws.{getD-map, front, front-length, front-step, front-all}
-use Rattle.masks.proofs.RefusalLaws.{writes-refused, writes-done}
+use Rattle.masks.proofs.OutcomeLaws.{writes-refused, writes-done}
 use Rattle.sheets.specs.Patterns.{converted}
 
 -- a pattern that is no NaN's comes back

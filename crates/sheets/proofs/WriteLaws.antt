@@ -9,7 +9,7 @@ use borrow.Author.Tests.{ltb-false}
 use Rattle.masks.specs.declared.shape.Shape.{Shape}
 use Rattle.masks.specs.Outcome.{laid, refusal, noRoom}
 use Rattle.masks.proofs.ListLaws.{sets-laid}
-use Rattle.masks.proofs.RefusalLaws.{past, fewer-pass, rest-same}
+use Rattle.masks.proofs.OutcomeLaws.{past, fewer-pass, rest-same}
 use Rattle.masks.proofs.TextLaws.{sets-more}
 use Rattle.sheets.specs.declared.shapes.Shapes.{Shapes}
 use Rattle.sheets.specs.Bytes.{littleEndian, allBytes, section}

@@ -7,7 +7,7 @@ use lib.ListN.{length, length-map}
 use lib.Seq.{sets}
 use borrow.Author.Needs.{needs}
 use Rattle.masks.specs.Outcome.{refusal, laid}
-use Rattle.masks.proofs.RefusalLaws.{writes-refused, writes-done}
+use Rattle.masks.proofs.OutcomeLaws.{writes-refused, writes-done}
 use Rattle.sheets.specs.declared.shapes.Shapes.{Shapes}
 use Rattle.sheets.specs.Bytes.{littleEndian, allBytes}
 use Rattle.sheets.specs.Format.{shapeBytes, patternBytes, sheetBytes}
