@@ -12,7 +12,7 @@ use lib.ListN.{length, getD}
 use Rattle.masks.specs.declared.flavor.Flavor.the-variants.{Vanilla, Projective}
 use Rattle.masks.specs.declared.shape.Shape.{Shape}
 use Rattle.masks.specs.declared.outcome.Answer.{Answer}
-use Rattle.masks.specs.Outcome.{Outcome, Gives, refusal, tooMany, wrongCount, noRoom, unless, value, refusedValue, shapeOf, answerOf, pairTests as countTests}
+use Rattle.masks.specs.Outcome.{Outcome, Gives, refusal, tooMany, wrongCount, noRoom, unless, value, refusedValue, shapeOf, answerOf, pairTests}
 use Rattle.masks.specs.Shape.{promotes}
 use Rattle.masks.proofs.OutcomeLaws.{later-same, refused-already, unless-done, gives-refused, passed}
 use Rattle.arithmetic.specs.declared.scalar.Complex.{Complex}
@@ -21,7 +21,7 @@ use Rattle.arithmetic.specs.declared.scalar.ScalarTest.the-variants.{Sca
 use Rattle.arithmetic.specs.Scalar.{isScalar, isPlanar, testOf, ifScalar, wasPlanar, noInverse}
 use Rattle.arithmetic.specs.Kept.{kept}
 use Rattle.arithmetic.specs.Scale.{scaled, reciprocal, divF64}
-use Rattle.arithmetic.specs.Operators.{pairTests, isOther, resultDims, operatorTests, multiplication}
+use Rattle.arithmetic.specs.Operators.{isOther, resultDims, operatorTests, multiplication}
 use Rattle.arithmetic.specs.Inverse.{generalInverse, inverseBy, inverseOf}
 use Rattle.arithmetic.specs.Quotient.{divisorBy, quotientDims, quotient}
 use Rattle.arithmetic.proofs.KeptLaws.{Accepted, accepted-kept}
@@ -65,7 +65,7 @@ module _ (s t : Shape) (b : List Float) where
 
 -- The tests of a quotient by a scalar are those of the left value.
 scalar-tests : (d e count countRight room : ℕ) → e ≤ 9 → countRight ≡ 2 ^ e
-    → refusal (countTests d e d count countRight room) ≡ refusal (tooMany d ∷ wrongCount count d ∷ noRoom room (2 ^ d) ∷ [])
+    → refusal (pairTests d e d count countRight room) ≡ refusal (tooMany d ∷ wrongCount count d ∷ noRoom room (2 ^ d) ∷ [])
 unfolding refusal
 scalar-tests d e count countRight room h c =
     later-same d (tooMany e ∷ tooMany d ∷ wrongCount count d ∷ wrongCount countRight e ∷ noRoom room (2 ^ d) ∷ []) (wrongCount count d ∷ noRoom room (2 ^ d) ∷ [])
@@ -91,7 +91,7 @@ unless-twice (suc k) n o e = rw e
 module _ (s t : Shape) (a b : List Float) (room : ℕ) (l : length b ≡ 2 ^ t .dims) where
   -- The number of a quotient's refusal, or 0, where the test answers u.
   abbrev numberBy : ScalarTest → ℕ
-  numberBy u = refusal (pairTests s t (ifScalar u (λ f. s .dims) (resultDims s t (divisorBy u t b))) a b room ++ noInverse u ∷ [])
+  numberBy u = refusal (pairTests (s .dims) (t .dims) (ifScalar u (λ f. s .dims) (resultDims s t (divisorBy u t b))) (length a) (length b) room ++ noInverse u ∷ [])
 
   quotient-by : (u : ScalarTest) → testOf t b ≡ u → quotient s t a b room ≡ unless refusedValue (numberBy u) (ifScalar u (λ f. value s (scaled (reciprocal f) a)) (multiplication s t a (inverseBy u t b) room))
   unfolding quotient
@@ -117,7 +117,7 @@ module _ (s t : Shape) (a b : List Float) (room : ℕ) (l : length b ≡ 2 ^ t .
   multiplied-again =
       let n = resultDims s t (generalInverse t b) in
       unless-twice (refusal (operatorTests s t a (generalInverse t b) room)) (numberBy Neither) _
-      (ap (λ (k : ℕ). refusal (countTests (s .dims) (t .dims) n (length a) k room)) (l ∙ sym (general-length t b l)))
+      (ap (λ (k : ℕ). refusal (pairTests (s .dims) (t .dims) n (length a) k room)) (l ∙ sym (general-length t b l)))
 
   pub quotient-by-other : testOf t b ≡ Neither → quotient s t a b room ≡ multiplication s t a (inverseOf t b) room
   unfolding ifScalar inverseBy
@@ -137,19 +137,19 @@ module _ (s t : Shape) (a b : List Float) (room : ℕ) where
   not-five (Planar c) e = not-five-product _ e
   not-five Neither e = not-five-product _ e
 
-  right-counted : (n : ℕ) → refusal (pairTests s t n a b room) ≡ 0 → length b ≡ 2 ^ t .dims
+  right-counted : (n : ℕ) → refusal (pairTests (s .dims) (t .dims) n (length a) (length b) room) ≡ 0 → length b ≡ 2 ^ t .dims
   right-counted n z = passed (s .dims) (t .dims) n (length a) (length b) room z .countedRight
 
-  pub quotient-five : quotient s t a b room .number ≡ 5 → (refusal (pairTests s t (quotientDims s t b) a b room) ≡ 0) × IsPlanar t b
+  pub quotient-five : quotient s t a b room .number ≡ 5 → (refusal (pairTests (s .dims) (t .dims) (quotientDims s t b) (length a) (length b) room) ≡ 0) × IsPlanar t b
   unfolding quotient
   quotient-five e =
-      let p = five-last (pairTests s t (quotientDims s t b) a b room) tt (wasPlanar (testOf t b)) (unless-five _ _ (not-five (testOf t b)) e) in
+      let p = five-last (pairTests (s .dims) (t .dims) (quotientDims s t b) (length a) (length b) room) tt (wasPlanar (testOf t b)) (unless-five _ _ (not-five (testOf t b)) e) in
       (p .0, planar-is t b (right-counted (quotientDims s t b) (p .0)) (p .1))
 
-  pub five-quotient : refusal (pairTests s t (quotientDims s t b) a b room) ≡ 0 → IsPlanar t b → quotient s t a b room .number ≡ 5
+  pub five-quotient : refusal (pairTests (s .dims) (t .dims) (quotientDims s t b) (length a) (length b) room) ≡ 0 → IsPlanar t b → quotient s t a b room .number ≡ 5
   unfolding quotient
   five-quotient z p =
-      five-unless _ _ (last-five (pairTests s t (quotientDims s t b) a b room) tt (wasPlanar (testOf t b)) z (is-planar t b (right-counted (quotientDims s t b) z) p))
+      five-unless _ _ (last-five (pairTests (s .dims) (t .dims) (quotientDims s t b) (length a) (length b) room) tt (wasPlanar (testOf t b)) z (is-planar t b (right-counted (quotientDims s t b) z) p))
 
 -- ---- division by a scalar conforms nothing
 

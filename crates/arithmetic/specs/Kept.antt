@@ -5,12 +5,12 @@ use Prim.Native.Nat.{ℕ, _-_, _^_}
 use lib.Ieee.{Float, nan}
 use lib.ListN.{length, getD, set, take, replicate}
 use Rattle.masks.specs.declared.shape.Shape.{Shape}
-use Rattle.masks.specs.Outcome.{Test, Outcome, refusal, tooMany, wrongCount, noRoom, unless, value, refusedValue, laid, nought}
+use Rattle.masks.specs.Outcome.{Test, Outcome, refusal, valueTests, noRoom, unless, value, refusedValue, laid, nought}
 use Rattle.arithmetic.specs.declared.outcome.Taken.{Taken}
 
 -- The tests of such a call, in an output of `room` numbers.
 abbrev pub keptTests : Shape → List Float → ℕ → List Test
-keptTests s a room = tooMany (s .dims) ∷ wrongCount (length a) (s .dims) ∷ noRoom room (2 ^ s .dims) ∷ []
+keptTests s a room = valueTests (s .dims) (length a) ++ noRoom room (2 ^ s .dims) ∷ []
 
 -- `kept g` is the call that changes the coefficients as g does.
 unfoldable pub kept : (List Float → List Float) → Shape → List Float → ℕ → Outcome

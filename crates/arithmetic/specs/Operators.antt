@@ -6,7 +6,7 @@ use lib.Dec.{eqb}
 use lib.Ieee.{Float, nan, binary64, add, sub}
 use lib.ListN.{length, getD, set}
 use Rattle.masks.specs.declared.shape.Shape.{Shape}
-use Rattle.masks.specs.Outcome.{Test, Outcome, Pair, refusal, tooMany, wrongCount, noRoom, unless, refusedValue}
+use Rattle.masks.specs.Outcome.{Test, Outcome, Pair, refusal, pairTests, unless, refusedValue}
 use Rattle.masks.specs.Shape.{promotes, conformTo, conform}
 use Rattle.product.specs.Products.{generalProduct}
 use Rattle.arithmetic.specs.declared.operators.Sum.{Sum}
@@ -15,11 +15,6 @@ use Rattle.arithmetic.specs.Scalar.{isScalar, testOf, ifScalar}
 use Rattle.arithmetic.specs.Scale.{scaled}
 
 -- ---- refusals
-
--- The tests of a call on two values whose result has n dimensions.
-abbrev pub pairTests : Shape → Shape → ℕ → List Float → List Float → ℕ → List Test
-pairTests s t n a b room =
-    tooMany (s .dims) ∷ tooMany (t .dims) ∷ tooMany n ∷ wrongCount (length a) (s .dims) ∷ wrongCount (length b) (t .dims) ∷ noRoom room (2 ^ n) ∷ []
 
 -- The right value has the numbers of its dimensions, and is not scalar.
 unfoldable pub isOther : Shape → List Float → Bool
@@ -35,7 +30,7 @@ resultDims s t b = joinedDims s t (isOther t b)
 
 -- The tests of `*`, `+` and `-`, in an output of `room` numbers.
 abbrev pub operatorTests : Shape → Shape → List Float → List Float → ℕ → List Test
-operatorTests s t a b room = pairTests s t (resultDims s t b) a b room
+operatorTests s t a b room = pairTests (s .dims) (t .dims) (resultDims s t b) (length a) (length b) room
 
 -- ---- outcomes
 

@@ -1,6 +1,6 @@
 -- Whole powers. Assumes nothing.
 use mathlib.Core.Bool.{Bool, true, false, _&&_, _||_, cond}
-use mathlib.Core.List.{List, [], _∷_}
+use mathlib.Core.List.{List, [], _∷_, _++_}
 use Prim.Native.Nat.{ℕ, zero, suc, _+_, _^_, _/_, _%_}
 use lib.Dec.{eqb}
 use lib.Ieee.{Float}
@@ -8,7 +8,7 @@ use lib.IntN.{ℤ, pos, negsuc}
 use lib.ListN.{length}
 use Rattle.masks.specs.declared.shape.Shape.{Shape}
 use Rattle.masks.specs.Flavor.{addedDims}
-use Rattle.masks.specs.Outcome.{Test, Outcome, refusal, tooMany, wrongCount, noRoom, unless, value, refusedValue}
+use Rattle.masks.specs.Outcome.{Test, Outcome, refusal, resultTests, unless, value, refusedValue}
 use Rattle.masks.specs.Shape.{withDims}
 use Rattle.masks.specs.Build.{scalar}
 use Rattle.arithmetic.specs.Scalar.{testOf, wasPlanar}
@@ -59,7 +59,7 @@ powerOf s p a = raisedTo s (sizeOf p) (cond (isNegative p) (inverseOf s a) a)
 
 -- ---- the call
 
--- 5: an inverse is wanted, for a negative power, of a planar value.
+-- 5: An inverse is wanted, for a negative power, of a planar value.
 abbrev pub negativePlanar : Shape → ℤ → List Float → Test
 negativePlanar s p a = record { fails = isNegative p && wasPlanar (testOf s a); number = 5 }
 
@@ -70,8 +70,7 @@ leastPower p = record { fails = eqb (sizeOf p) (2 ^ 31); number = 6 }
 -- The tests of a power, in an output of `room` numbers.
 abbrev pub powerTests : Shape → ℤ → List Float → ℕ → List Test
 powerTests s p a room =
-    tooMany (s .dims) ∷ tooMany (powerDims s (sizeOf p)) ∷ wrongCount (length a) (s .dims) ∷ noRoom room (2 ^ powerDims s (sizeOf p))
-    ∷ negativePlanar s p a ∷ leastPower p ∷ []
+    resultTests (s .dims) (powerDims s (sizeOf p)) (length a) room (2 ^ powerDims s (sizeOf p)) ++ negativePlanar s p a ∷ leastPower p ∷ []
 
 -- `powi` is the power, in an output of `room` numbers.
 unfoldable pub power : Shape → ℤ → List Float → ℕ → Outcome

@@ -8,7 +8,7 @@ use lib.ListN.{length, getD}
 use Rattle.masks.specs.declared.flavor.Flavor.{Flavor}
 use Rattle.masks.specs.declared.flavor.Flavor.the-variants.{Vanilla, Projective, Cl}
 use Rattle.masks.specs.declared.shape.Shape.{Shape}
-use Rattle.masks.specs.Outcome.{Test, refusal, tooMany, wrongCount, unless, nought}
+use Rattle.masks.specs.Outcome.{Test, refusal, valueTests, unless, nought}
 use Rattle.arithmetic.specs.declared.scalar.Complex.{Complex}
 use Rattle.arithmetic.specs.declared.scalar.ScalarTest.{ScalarTest}
 use Rattle.arithmetic.specs.declared.scalar.ScalarTest.the-variants.{Scalar, Planar, Neither}
@@ -64,10 +64,6 @@ noInverse t = record { fails = wasPlanar t; number = 5 }
 abbrev pub refusedTest : ℕ → Tested
 refusedTest k = record { number = k; test = Neither }
 
--- The tests of a call that only reads a value.
-abbrev pub ownTests : Shape → List Float → List Test
-ownTests s a = tooMany (s .dims) ∷ wrongCount (length a) (s .dims) ∷ []
-
 -- `scalar_test` is the test of a value.
 unfoldable pub scalarTest : Shape → List Float → Tested
-scalarTest s a = unless refusedTest (refusal (ownTests s a)) (record { number = 0; test = testOf s a })
+scalarTest s a = unless refusedTest (refusal (valueTests (s .dims) (length a))) (record { number = 0; test = testOf s a })

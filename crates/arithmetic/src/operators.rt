@@ -16,12 +16,12 @@ use product::products::general_product;
 ghost use mathlib.Core.Path.{_≡_};
 ghost use Prim.Native.Nat.{_≤_};
 ghost use lib.ListN.{length, take};
-ghost use Rattle.masks.specs.Outcome.{Gives, laid, refusal};
+ghost use Rattle.masks.specs.Outcome.{Gives, laid, refusal, pairTests};
 ghost use Rattle.masks.specs.Shape.{conformTo, conform};
 ghost use Rattle.product.specs.Products.{generalProduct};
 ghost use Rattle.arithmetic.specs.declared.operators.Sum.the-variants.{Plus, Minus};
 ghost use Rattle.arithmetic.specs.Scale.{scaled};
-ghost use Rattle.arithmetic.specs.Operators.{pairTests, isOther, joinedDims, operatorTests, withCoefs, multiplication, summed, summedAt0, summedEach, summedPair, addition};
+ghost use Rattle.arithmetic.specs.Operators.{isOther, joinedDims, operatorTests, withCoefs, multiplication, summed, summedAt0, summedEach, summedPair, addition};
 
 // A sum or a difference.
 pub enum Sum {
@@ -68,7 +68,7 @@ pub(crate) fn joined_refusal(
     b: &[f64],
     room: usize,
 ) -> u8
-    ensures { λ r. ⌜ r ≡ refusal (pairTests left right (joinedDims left right other) (now (a .entry)) (now (b .entry)) room) ⌝ }
+    ensures { λ r. ⌜ r ≡ refusal (pairTests (left .dims) (right .dims) (joinedDims left right other) (length (now (a .entry))) (length (now (b .entry))) room) ⌝ }
 {
     let n = joined_dims(left, right, other);
     pair_refusal(left.dims, right.dims, n, a.len(), b.len(), room)

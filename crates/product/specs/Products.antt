@@ -1,11 +1,11 @@
 -- What the five products give. Assumes nothing.
 use mathlib.Core.Path.{_≡_}
-use mathlib.Core.List.{List, [], _∷_}
-use Prim.Native.Nat.{ℕ, _+_, _^_, max}
+use mathlib.Core.List.{List}
+use Prim.Native.Nat.{ℕ, _+_, max}
 use lib.Ieee.{Float, binary64}
 use lib.ListN.{length}
 use Rattle.masks.specs.declared.shape.Shape.{Shape}
-use Rattle.masks.specs.Outcome.{Test, Outcome, refusal, tooMany, wrongCount, noRoom, unless, value, refusedValue, laid}
+use Rattle.masks.specs.Outcome.{Test, Outcome, refusal, pairTests, unless, value, refusedValue, laid}
 use Rattle.masks.specs.Shape.{promotes, conform}
 use Rattle.product.specs.declared.mode.Mode.{Mode}
 use Rattle.product.specs.declared.mode.Mode.the-variants.{All, Left, Right, Inner, Outer}
@@ -35,9 +35,7 @@ meetingDims s t = max (s .dims + promotes (s .flavor) (t .flavor)) (t .dims + pr
 
 -- The tests of a product: the dimensions of both values and of the result, both counts, and the room.
 abbrev pub productTests : Shape → Shape → List Float → List Float → ℕ → List Test
-productTests s t a b room =
-    tooMany (s .dims) ∷ tooMany (t .dims) ∷ tooMany (meetingDims s t) ∷ wrongCount (length a) (s .dims) ∷ wrongCount (length b) (t .dims)
-    ∷ noRoom room (2 ^ meetingDims s t) ∷ []
+productTests s t a b room = pairTests (s .dims) (t .dims) (meetingDims s t) (length a) (length b) room
 
 -- Both values are conformed and multiplied; the left shape is kept.
 unfoldable pub multiplied : Mode → Shape → Shape → List Float → List Float → ℕ → Counted

@@ -7,9 +7,9 @@ use borrow.Author.Needs.{needs}
 use lib.Ieee.{Float}
 use lib.ListN.{length}
 use Rattle.masks.specs.declared.shape.Shape.{Shape}
-use Rattle.masks.specs.Outcome.{refusal, tooMany, wrongCount, noRoom}
+use Rattle.masks.specs.Outcome.{refusal, tooMany, wrongCount, noRoom, pairTests}
 use Rattle.masks.proofs.OutcomeLaws.{later-same}
-use Rattle.arithmetic.specs.Operators.{pairTests, isOther, joinedDims, resultDims, operatorTests}
+use Rattle.arithmetic.specs.Operators.{isOther, joinedDims, resultDims, operatorTests}
 use Rattle.arithmetic.proofs.operators.operator_refusal.Statement.{statement}
 use Rattle.arithmetic.proofs.operators.operator_refusal.Tie as tie
 
@@ -19,7 +19,7 @@ is-other-requires c κs = search needs
 joined-refusal-requires : tie.Need-joined-refusal-requires
 joined-refusal-requires c κs = search needs
 
-numbered : (s t : Shape) (other : Bool) (a b : List Float) (room : ℕ) → (t .dims ≤ 9 → other ≡ isOther t b) → refusal (pairTests s t (joinedDims s t other) a b room) ≡ refusal (operatorTests s t a b room)
+numbered : (s t : Shape) (other : Bool) (a b : List Float) (room : ℕ) → (t .dims ≤ 9 → other ≡ isOther t b) → refusal (pairTests (s .dims) (t .dims) (joinedDims s t other) (length a) (length b) room) ≡ refusal (operatorTests s t a b room)
 unfolding resultDims
 numbered s t other a b room h =
     later-same (s .dims) _ _

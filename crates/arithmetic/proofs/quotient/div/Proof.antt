@@ -10,10 +10,10 @@ use lib.Ieee.{Float}
 use lib.ListN.{length}
 use Rattle.masks.specs.declared.shape.Shape.{Shape}
 use Rattle.masks.specs.declared.outcome.Answer.{Answer}
-use Rattle.masks.specs.Outcome.{Outcome, Gives, refusal, tooMany, wrongCount, noRoom, refusedValue, answerOf}
+use Rattle.masks.specs.Outcome.{Outcome, Gives, refusal, tooMany, wrongCount, noRoom, refusedValue, answerOf, pairTests}
 use Rattle.masks.proofs.OutcomeLaws.{past, later-same, refused-already, gives-refused, passed}
 use Rattle.arithmetic.specs.Scalar.{testOf, wasPlanar}
-use Rattle.arithmetic.specs.Operators.{pairTests, isOther}
+use Rattle.arithmetic.specs.Operators.{isOther}
 use Rattle.arithmetic.specs.Quotient.{quotientDims, quotient}
 use Rattle.arithmetic.proofs.InverseLaws.{inverse-length}
 use Rattle.arithmetic.proofs.QuotientLaws.{quotient-by-scalar, gives-planar, quotient-by-other}
@@ -31,23 +31,23 @@ module _ (s t : Shape) (a b : List Float) (room : ℕ) (h : refusal (tooMany (t 
   unfolding quotientDims isOther
   left-dims l = rw (ne-eqb (length b) (2 ^ t .dims) (miscounted l))
 
-  left-tests : refusal (pairTests s t (quotientDims s t b) a b room) ≡ refusal (pairTests s t (s .dims) a b room)
+  left-tests : refusal (pairTests (s .dims) (t .dims) (quotientDims s t b) (length a) (length b) room) ≡ refusal (pairTests (s .dims) (t .dims) (s .dims) (length a) (length b) room)
   left-tests =
       later-same (s .dims) _ _
       (λ k.
       later-same (t .dims) _ _
       (λ l. ap (λ (n : ℕ). refusal (tooMany n ∷ wrongCount (length a) (s .dims) ∷ wrongCount (length b) (t .dims) ∷ noRoom room (2 ^ n) ∷ [])) (left-dims l)))
 
-  refused-pair : refusal (pairTests s t (s .dims) a b room) ≡ 0 → ⊥
+  refused-pair : refusal (pairTests (s .dims) (t .dims) (s .dims) (length a) (length b) room) ≡ 0 → ⊥
   refused-pair z =
       let p = passed (s .dims) (t .dims) (s .dims) (length a) (length b) room z in
       miscounted (p .smallRight) (p .countedRight)
 
-  gives-miscounted : (n : ℕ) (r : Answer) (out : List Float) → n ≡ refusal (pairTests s t (s .dims) a b room) → r ≡ answerOf (refusedValue n) → Gives (quotient s t a b room) r out out
+  gives-miscounted : (n : ℕ) (r : Answer) (out : List Float) → n ≡ refusal (pairTests (s .dims) (t .dims) (s .dims) (length a) (length b) room) → r ≡ answerOf (refusedValue n) → Gives (quotient s t a b room) r out out
   unfolding quotient
   gives-miscounted n r out e q =
       gives-refused _ n _ r out
-      (e ∙ sym left-tests ∙ sym (refused-already (pairTests s t (quotientDims s t b) a b room) _ (λ z. refused-pair (sym left-tests ∙ z)))) (λ z. refused-pair (sym e ∙ z)) q
+      (e ∙ sym left-tests ∙ sym (refused-already (pairTests (s .dims) (t .dims) (quotientDims s t b) (length a) (length b) room) _ (λ z. refused-pair (sym left-tests ∙ z)))) (λ z. refused-pair (sym e ∙ z)) q
 
 -- ---- a right value that is not
 
