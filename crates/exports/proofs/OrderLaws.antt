@@ -21,15 +21,15 @@ use Rattle.exports.proofs.ReportsLaws.{kept-reported, done-reported}
 -- ---- the order that is given
 
 -- Its number is that of the test of the dimensions.
-pub given-number : {g : OrderAnswer} {d : ℕ} → g ≡ orderGiven d → g .number ≡ refusal (orderTests d)
+pub given-number : (d : ℕ) {g : OrderAnswer} → g ≡ orderGiven d → g .number ≡ refusal (orderTests d)
 unfolding orderGiven
-given-number {d = d} e =
+given-number d e =
     ap (λ (o : OrderAnswer). o .number) e
     ∙ unless-number (λ (o : OrderAnswer). o .number) refusedOrder (refusal (orderTests d)) _ refl refl
 
 -- Where it is 0 they are at most 9.
-pub given-small : {g : OrderAnswer} {d : ℕ} → g ≡ orderGiven d → g .number ≡ 0 → d ≤ 9
-given-small {d = d} e z = ltb-false 9 d (past (tooMany d) [] (λ q. omega arith) (sym (given-number e) ∙ z) .0)
+pub given-small : (d : ℕ) {g : OrderAnswer} → g ≡ orderGiven d → g .number ≡ 0 → d ≤ 9
+given-small d e z = ltb-false 9 d (past (tooMany d) [] (λ q. omega arith) (sym (given-number d e) ∙ z) .0)
 
 take-places : (d : ℕ) → take (2 ^ d) (placesOf d) ≡ map (place d) (upFrom 0 (2 ^ d))
 unfolding placesOf held
@@ -48,7 +48,7 @@ pub record Sorted (d : ℕ) (o : Order) (n : ℕ) : Type 0 where
 
 pub sorted : (d : ℕ) (g : OrderAnswer) (c : Count) → g ≡ orderGiven d → g .number ≡ 0 → c ≡ bladeCount d → Sorted d (g .order) (c .count)
 sorted d g c e z f =
-    let h = given-small e z in
+    let h = given-small d e z in
     let q = order-given e h in
     let m = blades-counted f h in
     record {
