@@ -1,7 +1,7 @@
 // Single blades, and single grades.
 use super::numbers::shape_from;
-use super::report::report;
-use super::report::report_number;
+use super::reports::report;
+use super::reports::report_number;
 use masks::order::grade_size;
 use masks::outcome::DONE;
 ghost use mathlib.Core.Path.{_≡_};

@@ -1,5 +1,5 @@
 // Values from few numbers.
-use super::report::report;
+use super::reports::report;
 use masks::build::blades_left;
 use masks::build::blades_right;
 use masks::build::n_1_blades;

@@ -1,7 +1,7 @@
 // Equality and order, as the reference has them.
 use super::numbers::shape_from;
-use super::report::report_order;
-use super::report::report_yes;
+use super::reports::report_order;
+use super::reports::report_yes;
 use arithmetic::compare::cmp;
 use arithmetic::compare::eq;
 ghost use Rattle.arithmetic.specs.Compare.{equals, compared};

@@ -1,8 +1,8 @@
 // Flavors, and their text.
 use super::numbers::metric_number;
-use super::report::report_count;
-use super::report::report_flavor;
-use super::report::report_read;
+use super::reports::report_count;
+use super::reports::report_flavor;
+use super::reports::report_read;
 use masks::flavor::Flavor;
 use masks::flavor::null_flavor;
 use masks::shape::promotion;

@@ -9,7 +9,7 @@ pub mod operators;
 pub mod order;
 pub mod products;
 pub mod refusals;
-mod report;
+mod reports;
 pub mod shapes;
 pub mod sheet;
 pub mod unpack;

@@ -1,6 +1,6 @@
 // Operators.
 use super::numbers::shape_from;
-use super::report::report;
+use super::reports::report;
 use arithmetic::operators::add;
 use arithmetic::operators::mul;
 use arithmetic::operators::sub;

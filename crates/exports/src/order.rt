@@ -1,5 +1,5 @@
 // The order of masks, and the sizes of grades.
-use super::report::report_count;
+use super::reports::report_count;
 use masks::order::blade_count;
 use masks::order::grade_size;
 use masks::order::order_of;

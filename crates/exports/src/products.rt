@@ -1,6 +1,6 @@
 // The five products.
 use super::numbers::shape_from;
-use super::report::report_product;
+use super::reports::report_product;
 use product::products::general_product;
 use product::products::inner_product;
 use product::products::left_contraction;

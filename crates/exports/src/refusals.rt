@@ -1,6 +1,6 @@
 // The refusal numbers, and what a call answers with them.
 use super::numbers::shape_from;
-use super::report::report;
+use super::reports::report;
 use masks::outcome::done;
 use masks::outcome::pair_refusal;
 use masks::outcome::refusal_of;

@@ -1,8 +1,8 @@
 // Shapes and their changes.
 use super::numbers::shape_from;
-use super::report::report;
-use super::report::report_both;
-use super::report::report_shape;
+use super::reports::report;
+use super::reports::report_both;
+use super::reports::report_shape;
 use sheets::read::flavor_from;
 ghost use mathlib.Core.Path.{_≡_};
 ghost use mathlib.Core.List.{[], _∷_};

@@ -1,7 +1,7 @@
 // The rig sheet. A list of shapes is a slice of bytes, five to a shape.
-use super::report::report_count;
-use super::report::report_place;
-use super::report::report_sheet;
+use super::reports::report_count;
+use super::reports::report_place;
+use super::reports::report_sheet;
 use masks::outcome::DONE;
 use masks::outcome::MAX_DIMS;
 use masks::outcome::TOO_MANY_DIMS;

@@ -1,6 +1,6 @@
 // Some numbers of a value, by mask.
 use super::numbers::shape_from;
-use super::report::report_count;
+use super::reports::report_count;
 ghost use lib.ListN.{length};
 ghost use Rattle.masks.specs.Unpack.{unpackAll, unpackHalf, unpackOwnHalf, unpackVector};
 ghost use Rattle.exports.specs.Numbers.{shaped};

@@ -1,9 +1,9 @@
 // Calls on one value, and the regressive product.
 use super::numbers::shape_from;
-use super::report::report;
-use super::report::report_number;
-use super::report::report_taken;
-use super::report::report_test;
+use super::reports::report;
+use super::reports::report_number;
+use super::reports::report_taken;
+use super::reports::report_test;
 use arithmetic::dual::antidual;
 use arithmetic::dual::dual;
 use arithmetic::dual::regressive_product;

@@ -8,8 +8,8 @@ use Rattle.arithmetic.specs.declared.outcome.Ordering.{Ordering}
 use Rattle.arithmetic.specs.declared.outcome.Ordering.the-variants.{Less, Equal, Greater}
 use Rattle.exports.specs.Numbers.{orderNumber}
 use Rattle.exports.proofs.ReportsLaws.{kept-reported, done-reported}
-use Rattle.exports.proofs.report.report_order.Statement.{statement}
-use Rattle.exports.proofs.report.report_order.Tie as tie
+use Rattle.exports.proofs.reports.report_order.Statement.{statement}
+use Rattle.exports.proofs.reports.report_order.Tie as tie
 
 returns : tie.Need-returns
 returns c =

@@ -4,8 +4,8 @@ use lib.Ieee.{binary64, ofBits}
 use borrow.Author.Needs.{needs}
 use Rattle.masks.specs.Outcome.{nought}
 use Rattle.exports.specs.Numbers.{testNumber, realPart, imaginaryPart}
-use Rattle.exports.proofs.report.report_parts.Statement.{statement}
-use Rattle.exports.proofs.report.report_parts.Tie as tie
+use Rattle.exports.proofs.reports.report_parts.Statement.{statement}
+use Rattle.exports.proofs.reports.report_parts.Tie as tie
 
 enum-known-test : tie.Need-enum-known-test
 enum-known-test c = search needs

@@ -1,8 +1,8 @@
 -- `exports::report::report_count` meets its contract. Assumes nothing.
 use mathlib.Core.Path.{refl}
 use Rattle.exports.proofs.ReportsLaws.{kept-reported, done-reported}
-use Rattle.exports.proofs.report.report_count.Statement.{statement}
-use Rattle.exports.proofs.report.report_count.Tie as tie
+use Rattle.exports.proofs.reports.report_count.Statement.{statement}
+use Rattle.exports.proofs.reports.report_count.Tie as tie
 
 returns : tie.Need-returns
 returns c =

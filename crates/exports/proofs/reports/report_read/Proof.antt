@@ -1,8 +1,8 @@
 -- `exports::report::report_read` meets its contract. Assumes nothing.
 use borrow.Author.Needs.{needs}
 use Rattle.exports.proofs.ReportsLaws.{kept-reported, done-reported}
-use Rattle.exports.proofs.report.report_read.Statement.{statement}
-use Rattle.exports.proofs.report.report_read.Tie as tie
+use Rattle.exports.proofs.reports.report_read.Statement.{statement}
+use Rattle.exports.proofs.reports.report_read.Tie as tie
 
 returns : tie.Need-returns
 returns c =

@@ -1,7 +1,7 @@
 -- `exports::report::report_flavor` meets its contract. Assumes nothing.
 use borrow.Author.Needs.{needs}
-use Rattle.exports.proofs.report.report_flavor.Statement.{statement}
-use Rattle.exports.proofs.report.report_flavor.Tie as tie
+use Rattle.exports.proofs.reports.report_flavor.Statement.{statement}
+use Rattle.exports.proofs.reports.report_flavor.Tie as tie
 
 enum-told : tie.Need-enum-told
 enum-told c = search needs

@@ -1,8 +1,8 @@
 -- `exports::report::report_yes` meets its contract. Assumes nothing.
 use borrow.Author.Needs.{needs}
 use Rattle.exports.proofs.ReportsLaws.{kept-reported, done-reported}
-use Rattle.exports.proofs.report.report_yes.Statement.{statement}
-use Rattle.exports.proofs.report.report_yes.Tie as tie
+use Rattle.exports.proofs.reports.report_yes.Statement.{statement}
+use Rattle.exports.proofs.reports.report_yes.Tie as tie
 
 returns : tie.Need-returns
 returns c =

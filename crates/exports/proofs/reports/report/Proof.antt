@@ -1,8 +1,8 @@
 -- `exports::report::report` meets its contract. Assumes nothing.
 use borrow.Author.Needs.{needs}
 use Rattle.exports.proofs.ReportsLaws.{kept-reported, done-reported}
-use Rattle.exports.proofs.report.report.Statement.{statement}
-use Rattle.exports.proofs.report.report.Tie as tie
+use Rattle.exports.proofs.reports.report.Statement.{statement}
+use Rattle.exports.proofs.reports.report.Tie as tie
 
 returns : tie.Need-returns
 returns c =

@@ -4,8 +4,8 @@ use mathlib.Core.List.{List, _++_}
 use borrow.Author.Needs.{needs}
 use Prim.Native.Nat.{ℕ}
 use Rattle.exports.proofs.ReportsLaws.{kept-reported, done-reported}
-use Rattle.exports.proofs.report.report_both.Statement.{statement}
-use Rattle.exports.proofs.report.report_both.Tie as tie
+use Rattle.exports.proofs.reports.report_both.Statement.{statement}
+use Rattle.exports.proofs.reports.report_both.Tie as tie
 
 returns : tie.Need-returns
 returns c =

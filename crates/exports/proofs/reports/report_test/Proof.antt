@@ -5,8 +5,8 @@ use borrow.Author.Needs.{needs}
 use Prim.Native.Nat.{ℕ}
 use lib.Ieee.{Float}
 use Rattle.exports.proofs.ReportsLaws.{kept-reported, done-reported}
-use Rattle.exports.proofs.report.report_test.Statement.{statement}
-use Rattle.exports.proofs.report.report_test.Tie as tie
+use Rattle.exports.proofs.reports.report_test.Statement.{statement}
+use Rattle.exports.proofs.reports.report_test.Tie as tie
 
 returns : tie.Need-returns
 returns c =

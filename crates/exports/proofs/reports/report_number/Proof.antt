@@ -1,8 +1,8 @@
 -- `exports::report::report_number` meets its contract. Assumes nothing.
 use mathlib.Core.Path.{refl}
 use Rattle.exports.proofs.ReportsLaws.{kept-reported, done-reported}
-use Rattle.exports.proofs.report.report_number.Statement.{statement}
-use Rattle.exports.proofs.report.report_number.Tie as tie
+use Rattle.exports.proofs.reports.report_number.Statement.{statement}
+use Rattle.exports.proofs.reports.report_number.Tie as tie
 
 returns : tie.Need-returns
 returns c =
