@@ -18,7 +18,7 @@ use Rattle.masks.specs.declared.flavor.Flavor.the-variants.{Vanilla, Pro
 use Rattle.masks.specs.declared.shape.Shape.{Shape}
 use Rattle.masks.specs.Order.{order, place, masksOf}
 use Rattle.masks.specs.Outcome.{refusal, tooMany, wrongCount, noRoom, resultTests, pairTests, unless, laid, nought, shapeOf, refusedValue, value, Pair, refusedPair}
-use Rattle.masks.specs.Shape.{coef, negatedIf, withDims, negates, moved, resized, setDims, promotes, raised, promoted, setFlavor, conformed, promotedFlavor, conformedShape, bothTests, conform}
+use Rattle.masks.specs.Shape.{coef, negatedIf, withDims, negates, moved, resized, setDims, promotes, promotedCoef, promoted, setFlavor, conformed, promotedFlavor, conformedShape, bothTests, conform}
 use Rattle.masks.specs.inner.Gather.{negatedAt, turnedMask, lowered}
 use Rattle.masks.proofs.ListLaws.{split, getD-map, take-laid}
 use Rattle.masks.proofs.OutcomeLaws.{past, Taken, taken, later-same, unless-done, passes, passed, not-refused}
@@ -143,12 +143,12 @@ resized-held d n count a held buf c e = rw (e, c, take-laid (2 ^ n) (resized d n
 
 pub promoted-length : (d : ℕ) (a : List Float) → length (promoted 1 d a) ≡ 2 ^ (d + 1)
 unfolding promoted
-promoted-length d a = ordered-length (raised d a) (d + 1)
+promoted-length d a = ordered-length (promotedCoef d a) (d + 1)
 
 -- what a promotion does at each mask
-pub promoted-at : (d m : ℕ) (a : List Float) → m < 2 ^ (d + 1) → coef (d + 1) (promoted 1 d a) m ≡ raised d a m
+pub promoted-at : (d m : ℕ) (a : List Float) → m < 2 ^ (d + 1) → coef (d + 1) (promoted 1 d a) m ≡ promotedCoef d a m
 unfolding promoted
-promoted-at d m a h = ordered-at (raised d a) (d + 1) m h
+promoted-at d m a h = ordered-at (promotedCoef d a) (d + 1) m h
 
 double-lt : (d m : ℕ) → m < 2 ^ d → 2 * m + 1 < 2 ^ (d + 1)
 double-lt d m h = rw (add-one d) (omega (arith, pow-suc 2 d))
@@ -171,8 +171,8 @@ lowered-le m h =
     (split (m % 2) 1)
 
 -- the mask that the code reads is the one that a mask comes from
-lowered-raised : (d m : ℕ) (a : List Float) → d ≤ 9 → coef d a (lowered m) ≡ raised d a m
-lowered-raised d m a h = go (eqb (m % 2) 0)
+lowered-promoted : (d m : ℕ) (a : List Float) → d ≤ 9 → coef d a (lowered m) ≡ promotedCoef d a m
+lowered-promoted d m a h = go (eqb (m % 2) 0)
   where
     go : (b : Bool) → coef d a (cond b (m / 2) 512) ≡ cond b (coef d a (m / 2)) nought
     go true = refl
@@ -186,7 +186,7 @@ promoted-moved d a h =
     (λ m l.
     let k : m < 512 = omega (arith, blades-le (d + 1) (omega arith)) in
     negated-other 1024 d (lowered m) a (λ e. omega (arith, e, lowered-le m (omega arith)))
-    ∙ lowered-raised d m a (omega arith)
+    ∙ lowered-promoted d m a (omega arith)
     ∙ sym (promoted-at d m a l))
 
 -- what the code gathers

@@ -59,14 +59,14 @@ promotes Vanilla (Cl p n z) = 0
 promotes Projective g = 0
 promotes (Cl p n z) g = 0
 
--- `raised d a m` is the coefficient of a mask where bit i of a value of d dimensions has become bit i + 1: +0 for a mask that has bit 0.
-abbrev pub raised : ℕ → List Float → ℕ → Float
-raised d a m = cond (eqb (m % 2) 0) (coef d a (m / 2)) nought
+-- `promotedCoef d a m` is the coefficient of a mask where bit i of a value of d dimensions has become bit i + 1: +0 for a mask that has bit 0.
+abbrev pub promotedCoef : ℕ → List Float → ℕ → Float
+promotedCoef d a m = cond (eqb (m % 2) 0) (coef d a (m / 2)) nought
 
 -- `promoted up d a` is a value of d dimensions promoted by `up` of them, 0 or 1.
 unfoldable pub promoted : ℕ → ℕ → List Float → List Float
 promoted zero d a = a
-promoted (suc up) d a = map (raised d a) (order (d + 1))
+promoted (suc up) d a = map (promotedCoef d a) (order (d + 1))
 
 -- `setFlavor` is the value in another flavor, in an output of `room` numbers.
 unfoldable pub setFlavor : Shape → Flavor → List Float → ℕ → Outcome

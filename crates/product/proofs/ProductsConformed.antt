@@ -17,7 +17,7 @@ use Rattle.rounding.proofs.ValueLaws.{zero-whole}
 use Rattle.masks.specs.declared.shape.Shape.{Shape}
 use Rattle.masks.specs.Order.{order}
 use Rattle.masks.specs.Outcome.{Pair, refusal, nought}
-use Rattle.masks.specs.Shape.{coef, negatedIf, negates, moved, resized, raised, promotes, promoted, promotedFlavor, conformed, conformedShape, conform}
+use Rattle.masks.specs.Shape.{coef, negatedIf, negates, moved, resized, promotedCoef, promotes, promoted, promotedFlavor, conformed, conformedShape, conform}
 use Rattle.masks.proofs.OutcomeLaws.{passed}
 use Rattle.masks.proofs.ListLaws.{split, getD-map}
 use Rattle.masks.proofs.OrderLaws.{length-order, place-lt}
@@ -44,9 +44,9 @@ module _ (Has : Float → Type 0) (kept : Kept Has) where
   coef-has d a h m =
       ⊎-elim (λ (l : m < 2 ^ d). rw (coef-inside d m a l) (h _ (place-lt d m l))) (λ (l : 2 ^ d ≤ m). rw (coef-outside d m a l) (kept .0)) (split m (2 ^ d))
 
-  raised-has : (b : Bool) (x : Float) → Has x → Has (cond b x nought)
-  raised-has true x h = h
-  raised-has false x h = kept .0
+  promoted-coef-has : (b : Bool) (x : Float) → Has x → Has (cond b x nought)
+  promoted-coef-has true x h = h
+  promoted-coef-has false x h = kept .0
 
   negated-has : (b : Bool) (x : Float) → Has x → Has (negatedIf b x)
   negated-has true x h = kept .1 x h
@@ -57,7 +57,7 @@ module _ (Has : Float → Type 0) (kept : Kept Has) where
   promoted-has zero d a l h i k = h i (rw (add-zero d) at k)
   promoted-has (suc zero) d a l h i k =
       let m = getD (order (d + 1)) i 0 in
-      rw (getD-map (raised d a) (order (d + 1)) i 0 nan (omega (arith, length-order (d + 1)))) (raised-has (eqb (m % 2) 0) _ (coef-has d a h (m / 2)))
+      rw (getD-map (promotedCoef d a) (order (d + 1)) i 0 nan (omega (arith, length-order (d + 1)))) (promoted-coef-has (eqb (m % 2) 0) _ (coef-has d a h (m / 2)))
   promoted-has (suc (suc _)) d a l h i k = absurd (omega arith)
 
   conformed-has : (up d n : ℕ) (a : List Float) → up ≤ 1 → Each Has d a → Each Has n (conformed up d n a)
