@@ -10,7 +10,7 @@ use Rattle.masks.specs.declared.shape.Shape.{Shape}
 use Rattle.masks.specs.declared.outcome.Answer.{Answer}
 use Rattle.masks.specs.Outcome.{Outcome, Gives, refusal, value, refusedValue, answerOf, shapeOf, laid}
 use Rattle.masks.specs.Flavor.{addedDims}
-use Rattle.masks.specs.Shape.{conformedShape}
+use Rattle.masks.specs.Shape.{conformedShape, meetingDims}
 use Rattle.masks.specs.Build.{pseudoscalar}
 use Rattle.masks.proofs.ListLaws.{take-laid}
 use Rattle.masks.proofs.OrderLaws.{blades-le}
@@ -18,7 +18,7 @@ use Rattle.masks.proofs.OutcomeLaws.{gives-refused, gives-done, Passed}
 use Rattle.masks.proofs.BuildLaws.{size-last, grade-fits, length-grade-set, one-built}
 use Rattle.product.specs.declared.mode.Mode.the-variants.{All, Outer}
 use Rattle.product.specs.declared.outcome.Product.{Product}
-use Rattle.product.specs.Products.{Counted, GivesProduct, multipliedOf, meetingDims, productTests, generalProduct, outerProduct}
+use Rattle.product.specs.Products.{Counted, GivesProduct, multipliedOf, productTests, generalProduct, outerProduct}
 use Rattle.product.proofs.ProductsRefusals.{pair-accepted, pair}
 use Rattle.product.proofs.PairwiseLaws.{product-length}
 use Rattle.product.proofs.ProductsLaws.{multiplied-same, multiplied-done}

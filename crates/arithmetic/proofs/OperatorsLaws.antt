@@ -14,14 +14,14 @@ use Rattle.masks.specs.declared.flavor.Flavor.the-variants.{Vanilla, Projective
 use Rattle.masks.specs.declared.shape.Shape.{Shape}
 use Rattle.masks.specs.declared.outcome.Answer.{Answer}
 use Rattle.masks.specs.Outcome.{Outcome, Gives, refusal, unless, value, refusedValue, laid, resultTests, pairTests}
-use Rattle.masks.specs.Shape.{promotes, conformed, conformedShape, conformTo, conform, bothTests}
+use Rattle.masks.specs.Shape.{promotes, conformed, conformedShape, conformTo, conform, bothTests, meetingDims}
 use Rattle.masks.proofs.ListLaws.{take-laid}
 use Rattle.masks.proofs.OutcomeLaws.{taken, unless-done, unless-refused, Passed, passed, passes, not-refused}
 use Rattle.masks.proofs.OrderLaws.{blades-le}
 use Rattle.masks.proofs.ShapeLaws.{resized-length, resized-same, conformed-none}
 use Rattle.product.specs.declared.mode.Mode.the-variants.{All}
 use Rattle.product.specs.Pairwise.{product}
-use Rattle.product.specs.Products.{Counted, refusedProduct, meetingDims, productTests, multiplied, generalProduct}
+use Rattle.product.specs.Products.{Counted, refusedProduct, productTests, multiplied, generalProduct}
 use Rattle.product.proofs.ListLaws.{laid-over}
 use Rattle.product.proofs.PairwiseLaws.{product-length}
 use Rattle.product.proofs.ProductsRefusals.{pair-accepted, second-accepted, conform-done, refused-by}

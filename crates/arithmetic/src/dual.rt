@@ -16,7 +16,7 @@ ghost use mathlib.Core.Path.{_≡_};
 ghost use Prim.Native.Nat.{_^_, _≤_};
 ghost use lib.ListN.{length};
 ghost use Rattle.masks.specs.Outcome.{Gives, laid};
-ghost use Rattle.product.specs.Products.{meetingDims};
+ghost use Rattle.masks.specs.Shape.{meetingDims};
 ghost use Rattle.arithmetic.specs.Dual.{dualOf, dual, antidualOf, antidual, regressiveProduct};
 
 // The dual, at the front of the output.

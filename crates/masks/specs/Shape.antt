@@ -104,12 +104,16 @@ abbrev pub bothTests : ℕ → ℕ → ℕ → ℕ → ℕ → ℕ → ℕ → L
 bothTests d e n count countRight room roomRight =
     pairTests d e n count countRight room ++ noRoom roomRight (2 ^ n) ∷ []
 
+-- The dimensions that two values meet in, where the Vanilla one of a Vanilla and Projective pair is promoted.
+abbrev pub meetingDims : Shape → Shape → ℕ
+meetingDims s t = max (s .dims + promotes (s .flavor) (t .flavor)) (t .dims + promotes (t .flavor) (s .flavor))
+
 -- The Vanilla one of a Vanilla and Projective pair is promoted, then the smaller is grown.
 unfoldable pub conform : Shape → Shape → List Float → List Float → ℕ → ℕ → Pair
 conform s t a b room roomRight =
     let up = promotes (s .flavor) (t .flavor) in
     let upRight = promotes (t .flavor) (s .flavor) in
-    let n = max (s .dims + up) (t .dims + upRight) in
+    let n = meetingDims s t in
     unless refusedPair (refusal (bothTests (s .dims) (t .dims) n (length a) (length b) room roomRight))
     (record {
       number = 0;

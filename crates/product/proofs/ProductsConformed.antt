@@ -17,13 +17,13 @@ use Rattle.rounding.proofs.ValueLaws.{zero-whole}
 use Rattle.masks.specs.declared.shape.Shape.{Shape}
 use Rattle.masks.specs.Order.{order}
 use Rattle.masks.specs.Outcome.{Pair, refusal, nought}
-use Rattle.masks.specs.Shape.{coef, negatedIf, negates, moved, resized, promotedCoef, promotes, promoted, promotedFlavor, conformed, conformedShape, conform}
+use Rattle.masks.specs.Shape.{coef, negatedIf, negates, moved, resized, promotedCoef, promotes, promoted, promotedFlavor, conformed, conformedShape, conform, meetingDims}
 use Rattle.masks.proofs.OutcomeLaws.{passed}
 use Rattle.masks.proofs.ListLaws.{split, getD-map}
 use Rattle.masks.proofs.OrderLaws.{length-order, place-lt}
 use Rattle.masks.proofs.ShapeLaws.{coef-inside, coef-outside, resized-length, promotes-le}
 use Rattle.product.specs.declared.mode.Mode.{Mode}
-use Rattle.product.specs.Products.{multipliedOf, meetingDims, productTests, multiplied}
+use Rattle.product.specs.Products.{multipliedOf, productTests, multiplied}
 use Rattle.product.specs.Accuracy.{Holds, Fitting, InBounds, Multiples}
 use Rattle.product.proofs.ProductsRefusals.{up, upRight, pair, conform-product, refused-by}
 use Rattle.product.proofs.ProductsLaws.{multiplied-done, multiplied-same}

@@ -15,7 +15,7 @@ use Rattle.masks.specs.declared.flavor.Flavor.the-variants.{Vanilla, Projective
 use Rattle.masks.specs.declared.shape.Shape.{Shape}
 use Rattle.masks.specs.declared.outcome.Answers.{Answers}
 use Rattle.masks.specs.Outcome.{Pair, GivesBoth, laid, refusal, unless, pairTests}
-use Rattle.masks.specs.Shape.{promotes, resized, conformed, conformedShape, conform}
+use Rattle.masks.specs.Shape.{promotes, resized, conformed, conformedShape, conform, meetingDims}
 use Rattle.masks.proofs.ListLaws.{take-laid, both}
 use Rattle.masks.proofs.OutcomeLaws.{unless-done, Passed, passed}
 use Rattle.masks.proofs.ShapeLaws.{resized-same, resized-length, paired, conformed-none}
@@ -23,7 +23,7 @@ use Rattle.product.proofs.ProductsRefusals.{gives-refusal, pair-accepte
 use Rattle.product.specs.declared.outcome.Product.{Product}
 use Rattle.product.specs.declared.mode.Mode.{Mode}
 use Rattle.product.specs.Pairwise.{pairsOf}
-use Rattle.product.specs.Products.{Counted, GivesProduct, productOf, refusedProduct, multipliedOf, meetingDims, productTests, multiplied}
+use Rattle.product.specs.Products.{Counted, GivesProduct, productOf, refusedProduct, multipliedOf, productTests, multiplied}
 use Rattle.product.specs.Accuracy.{Fitting}
 
 -- ---- conforming first

@@ -9,13 +9,13 @@ use borrow.Author.Tests.{eq-eqb, le-ltb, lt-ltb, ltb-false}
 use Rattle.masks.specs.declared.flavor.Flavor.the-variants.{Vanilla}
 use Rattle.masks.specs.declared.shape.Shape.{Shape}
 use Rattle.masks.specs.Outcome.{Test, Pair, refusal, tooMany, wrongCount, noRoom, unless, shapeOf, refusedPair, pairTests}
-use Rattle.masks.specs.Shape.{promotes, conformed, conformedShape, conform, bothTests}
+use Rattle.masks.specs.Shape.{promotes, conformed, conformedShape, conform, bothTests, meetingDims}
 use Rattle.masks.proofs.ShapeLaws.{paired, second-room}
 use Rattle.masks.proofs.OutcomeLaws.{unless-refused, unless-done, refused-first, refused-later, Passed, passed}
 use Rattle.masks.proofs.OrderLaws.{blades-le}
 use Rattle.product.specs.declared.outcome.Product.{Product}
 use Rattle.product.specs.declared.mode.Mode.{Mode}
-use Rattle.product.specs.Products.{Counted, GivesProduct, productOf, refusedProduct, meetingDims, productTests, multiplied}
+use Rattle.product.specs.Products.{Counted, GivesProduct, productOf, refusedProduct, productTests, multiplied}
 
 -- ---- the contract
 

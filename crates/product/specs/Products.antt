@@ -1,12 +1,12 @@
 -- What the five products give. Assumes nothing.
 use mathlib.Core.Path.{_≡_}
 use mathlib.Core.List.{List}
-use Prim.Native.Nat.{ℕ, _+_, max}
+use Prim.Native.Nat.{ℕ}
 use lib.Ieee.{Float, binary64}
 use lib.ListN.{length}
 use Rattle.masks.specs.declared.shape.Shape.{Shape}
 use Rattle.masks.specs.Outcome.{Test, Outcome, refusal, pairTests, unless, value, refusedValue, laid}
-use Rattle.masks.specs.Shape.{promotes, conform}
+use Rattle.masks.specs.Shape.{conform, meetingDims}
 use Rattle.product.specs.declared.mode.Mode.{Mode}
 use Rattle.product.specs.declared.mode.Mode.the-variants.{All, Left, Right, Inner, Outer}
 use Rattle.product.specs.declared.outcome.Product.{Product}
@@ -28,10 +28,6 @@ multipliedOf mode s a b =
       outcome = value s (product mode (s .flavor) (s .dims) binary64 a b);
       pairs = pairsOf mode (s .flavor) (s .dims);
     }
-
--- The dimensions that two values meet in: the Vanilla one of a Vanilla and Projective pair is promoted, then the smaller is grown.
-abbrev pub meetingDims : Shape → Shape → ℕ
-meetingDims s t = max (s .dims + promotes (s .flavor) (t .flavor)) (t .dims + promotes (t .flavor) (s .flavor))
 
 -- The tests of a product: the dimensions of both values and of the result, both counts, and the room.
 abbrev pub productTests : Shape → Shape → List Float → List Float → ℕ → List Test

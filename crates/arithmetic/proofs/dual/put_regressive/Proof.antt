@@ -6,7 +6,7 @@ use borrow.Author.Needs.{needs}
 use lib.ListN.{length}
 use lib.Seq.{length-take-le}
 use Rattle.masks.proofs.OrderLaws.{blades-le, blades-counted}
-use Rattle.product.specs.Products.{meetingDims}
+use Rattle.masks.specs.Shape.{meetingDims}
 use Rattle.arithmetic.proofs.DualRegressive.{Meets, meeting-shape, gives-regressive}
 use Rattle.arithmetic.proofs.dual.put_regressive.Statement.{statement}
 use Rattle.arithmetic.proofs.dual.put_regressive.Tie as tie

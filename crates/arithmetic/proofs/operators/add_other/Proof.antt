@@ -9,11 +9,10 @@ use Rattle.masks.specs.declared.shape.Shape.{Shape}
 use Rattle.masks.specs.declared.outcome.Answer.{Answer}
 use Rattle.masks.specs.declared.outcome.Answers.{Answers}
 use Rattle.masks.specs.Outcome.{Pair, Gives, GivesBoth, unless, answerOf, value, refusedValue, refusedPair, laid}
-use Rattle.masks.specs.Shape.{conformedShape, conform}
+use Rattle.masks.specs.Shape.{conformedShape, conform, meetingDims}
 use Rattle.masks.proofs.ShapeLaws.{paired, conform-dims, conform-lengths}
 use Rattle.masks.proofs.ListLaws.{take-laid}
 use Rattle.masks.proofs.OrderLaws.{blades-le, blades-counted}
-use Rattle.product.specs.Products.{meetingDims}
 use Rattle.product.proofs.ListLaws.{laid-over}
 use Rattle.arithmetic.specs.declared.operators.Sum.{Sum}
 use Rattle.arithmetic.specs.Operators.{summedEach, summedPair}
