@@ -10,6 +10,7 @@ pub mod OrderPasses
 pub mod OrderPrecedes
 pub mod OrderSizes
 pub mod OutcomeLaws
+pub mod ShapeBytesLaws
 pub mod ShapeLaws
 pub mod TextBack
 pub mod TextLaws

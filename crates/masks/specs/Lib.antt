@@ -4,6 +4,7 @@ pub mod Order
 pub mod Flavor
 pub mod Text
 pub mod Shape
+pub mod ShapeBytes
 pub mod Blade
 pub mod Build
 pub mod Unpack

@@ -1,4 +1,4 @@
-// Grades, masks, flavors and their text; shapes and their changes; building and unpacking: the lowest layer of the chain.
+// Grades, masks, flavors and their text; shapes, their bytes and their changes; building and unpacking: the lowest layer of the chain.
 pub mod blade;
 pub mod build;
 pub mod flavor;
@@ -6,5 +6,6 @@ mod gather;
 pub mod order;
 pub mod outcome;
 pub mod shape;
+pub mod shape_bytes;
 pub mod text;
 pub mod unpack;
