@@ -1,5 +1,5 @@
--- Laws of a sheet's bytes and limits, by cases of a flavor, by the list of shapes, or test by test. Assumes nothing.
-use mathlib.Core.Path.{_≡_, refl, ap}
+-- Laws of a sheet's bytes and limits, by the list of shapes, or test by test. Assumes nothing.
+use mathlib.Core.Path.{_≡_, refl, ap, _∙_}
 use mathlib.Core.Bool.{Bool, true, false, _||_, true≢false, or-assoc, or-true}
 use mathlib.Core.List.{List, [], _∷_, _++_}
 use Prim.Native.Nat.{ℕ, zero, suc, _+_, _*_, _≤_, _<_}
@@ -8,43 +8,38 @@ use native.Mathlib.Numerals.{add-one}
 use native.Mathlib.Omega.{arith}
 use lib.Dec.{ltb}
 use lib.ListN.{length, getD, take, length-append}
-use lib.Seq.{take-suc}
+use lib.Seq.{take-suc, length-take-le}
 use borrow.Author.Tests.{lt-ltb, le-ltb, ltb-false, eqb-true, eq-eqb, not-false}
-use Rattle.masks.specs.declared.flavor.Flavor.{Flavor}
-use Rattle.masks.specs.declared.flavor.Flavor.the-variants.{Vanilla, Projective, Cl}
+use Rattle.masks.specs.declared.flavor.Flavor.the-variants.{Vanilla}
 use Rattle.masks.specs.declared.shape.Shape.{Shape}
 use Rattle.masks.specs.Outcome.{shapeOf, refusal}
+use Rattle.masks.specs.ShapeBytes.{shapeBytes, shapeFrom}
 use Rattle.masks.specs.Text.{same}
 use Rattle.masks.proofs.ListLaws.{same-eq}
 use Rattle.masks.proofs.OrderLaws.{blades-le}
 use Rattle.masks.proofs.OutcomeLaws.{past}
-use Rattle.sheets.specs.Format.{Sheet, flavorBytes, shapeBytes, patternBytes, sheetBytes, anyAboveNine, bladeTotal, limits}
-use Rattle.sheets.specs.Read.{shapeFrom, flavorFrom, isSheet}
+use Rattle.masks.proofs.ShapeBytesLaws.{shapeBytes-length, shape-back, first-five}
+use Rattle.sheets.specs.Format.{Sheet, shapeIn, patternBytes, sheetBytes, anyAboveNine, bladeTotal, limits}
+use Rattle.sheets.specs.Read.{isSheet}
 use Rattle.sheets.proofs.BytesLaws.{littleEndian-length, section-length}
 
 -- ---- bytes
 
-pub shapeBytes-length : (s : Shape) → length (shapeBytes s) ≡ 5
-shapeBytes-length s = go (s .flavor)
-  where
-    go : (f : Flavor) → length (s .dims ∷ flavorBytes f) ≡ 5
-    go Vanilla = refl
-    go Projective = refl
-    go (Cl p n z) = refl
+-- `shapeIn w` has w bytes, of six at most.
+pub shapeIn-length : (w : ℕ) → w ≤ 6 → (s : Shape) → length (shapeIn w s) ≡ w
+shapeIn-length w h s = length-take-le w (shapeBytes s) (omega (arith, shapeBytes-length s))
 
-pub shapeFrom-shapeBytes : (s : Shape) → shapeFrom (shapeBytes s) ≡ s
-unfolding shapeFrom
-shapeFrom-shapeBytes s = ap (shapeOf (s .dims)) (go (s .flavor))
-  where
-    go : (f : Flavor) → flavorFrom (getD (flavorBytes f) 0 0) (getD (flavorBytes f) 1 0) (getD (flavorBytes f) 2 0) (getD (flavorBytes f) 3 0) ≡ f
-    go Vanilla = refl
-    go Projective = refl
-    go (Cl p n z) = refl
+pub five-length : (s : Shape) → length (shapeIn 5 s) ≡ 5
+five-length = shapeIn-length 5 (omega arith)
+
+-- A shape comes back from its first five bytes.
+pub five-back : (s : Shape) → shapeFrom (shapeIn 5 s) ≡ s
+five-back s = first-five 5 (shapeBytes s) (omega arith) ∙ shape-back s
 
 pub sheetBytes-length : (s : Sheet) → length (sheetBytes s) ≡ 6 + 5 * length (s .shapes) + 8 * length (s .patterns)
 unfolding sheetBytes
 sheetBytes-length s =
-    rw (length-append, section-length shapeBytes 5 shapeBytes-length 2 (s .shapes), section-length patternBytes 8 (littleEndian-length 8) 4 (s .patterns))
+    rw (length-append, section-length (shapeIn 5) 5 five-length 2 (s .shapes), section-length patternBytes 8 (littleEndian-length 8) 4 (s .patterns))
     (omega arith)
 
 pub same-true : (a b : List ℕ) → same a b ≡ true → a ≡ b

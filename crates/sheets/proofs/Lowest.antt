@@ -12,12 +12,16 @@ use Rattle.sheets.specs.Read.{isSheetBytes, readSheetTests}
 use Rattle.sheets.specs.Write.{writeSheetTests}
 use Rattle.sheets.specs.Values.{valueAtTests}
 use Rattle.sheets.specs.Patterns.{convertedTests}
+use Rattle.sheets.specs.Shapes.{shapeListTests}
 
 pub write-sheet-rises : (s : Shapes) (xs : List ℕ) (room : ℕ) → T (rises 1 (writeSheetTests s xs room))
 write-sheet-rises s xs room = tt
 
 pub value-at-rises : (ss : List Shape) (i : ℕ) → T (rises 1 (valueAtTests ss i))
 value-at-rises ss i = tt
+
+pub shape-list-rises : (s : Shapes) (room : ℕ) → T (rises 1 (shapeListTests s room))
+shape-list-rises s room = tt
 
 pub converted-rises : {A : Type 0} (xs : List A) (room : ℕ) → T (rises 1 (convertedTests xs room))
 converted-rises xs room = tt

@@ -12,15 +12,16 @@ use borrow.Author.Tests.{lt-ltb, le-ltb, not-true}
 use Rattle.masks.specs.declared.flavor.Flavor.the-variants.{Vanilla}
 use Rattle.masks.specs.declared.shape.Shape.{Shape}
 use Rattle.masks.specs.Outcome.{refusal, unless, shapeOf}
+use Rattle.masks.specs.ShapeBytes.{shapeFrom}
 use Rattle.masks.specs.Text.{same}
 use Rattle.masks.proofs.ListLaws.{getD-map, both-true}
 use Rattle.sheets.specs.declared.read.SheetRead.{SheetRead}
 use Rattle.sheets.specs.Bytes.{littleEndian, fromLittleEndian, section, parts, countIn, itemsIn, afterSection}
-use Rattle.sheets.specs.Format.{Sheet, shapeBytes, patternBytes, sheetBytes, bladeTotal, anyAboveNine}
-use Rattle.sheets.specs.Read.{shapeFrom, saidShapes, said, isSheet, isSheetBytes, ReadOutcome, refusedSheet, aSheet, readSheet, Reads}
+use Rattle.sheets.specs.Format.{Sheet, shapeIn, patternBytes, sheetBytes, bladeTotal, anyAboveNine}
+use Rattle.sheets.specs.Read.{said, isSheet, isSheetBytes, ReadOutcome, refusedSheet, aSheet, readSheet, Reads}
 use Rattle.sheets.specs.inner.Checks.{isShape, areShapes, checked}
 use Rattle.sheets.proofs.BytesLaws.{AreBytes, littleEndian-number, take-bytes, drop-bytes, items-section, parts-length, getD-parts, parts-take, allBytes-parts}
-use Rattle.sheets.proofs.FormatLaws.{shapeBytes-length, shapeFrom-shapeBytes, sheetBytes-length, same-true, same-refl, dims-at, sheet-within, within-sheet}
+use Rattle.sheets.proofs.FormatLaws.{five-length, five-back, sheetBytes-length, same-true, same-refl, dims-at, sheet-within, within-sheet}
 
 -- how many shapes and coefficients bytes say that they have
 abbrev pub shapesSaid : List ℕ → ℕ
@@ -36,27 +37,6 @@ shapes-count b = length-map (itemsIn 2 5 b) shapeFrom ∙ parts-length 5 (shapes
 pub patterns-count : (b : List ℕ) → length (said b .patterns) ≡ patternsSaid b
 unfolding said
 patterns-count b = length-map (itemsIn 4 8 (afterSection 2 5 b)) fromLittleEndian ∙ parts-length 8 (patternsSaid b) (drop 4 (afterSection 2 5 b))
-
--- ---- a list of shapes
-
-pub saidShapes-length : (b : List ℕ) → length (saidShapes b) ≡ length b / 5
-unfolding saidShapes
-saidShapes-length b = length-map (parts 5 (length b / 5) b) shapeFrom ∙ parts-length 5 (length b / 5) b
-
--- shape i is what the five bytes from 5 * i on say
-pub saidShapes-at : (b : List ℕ) (i : ℕ) → i < length b / 5 → getD (saidShapes b) i (shapeOf 0 Vanilla) ≡ shapeFrom (take 5 (drop (5 * i) b))
-unfolding saidShapes
-saidShapes-at b i h =
-    getD-map shapeFrom (parts 5 (length b / 5) b) i [] (shapeOf 0 Vanilla) (omega (arith, parts-length 5 (length b / 5) b))
-    ∙ ap shapeFrom (getD-parts 5 (length b / 5) b i h)
-
--- n shapes are said by 5 * n bytes
-pub saidShapes-part : (b : List ℕ) (n : ℕ) → 5 * n ≤ length b → saidShapes (take (5 * n) b) ≡ map shapeFrom (parts 5 n b)
-unfolding saidShapes
-saidShapes-part b n h =
-    let l = length-take-le (5 * n) b h in
-    let m : length (take (5 * n) b) / 5 ≡ n = omega arith in
-    ap (λ (k : ℕ). map shapeFrom (parts 5 k (take (5 * n) b))) m ∙ ap (map shapeFrom) (parts-take 5 n b h)
 
 -- ---- the checks
 
@@ -105,24 +85,24 @@ unfolding areShapes isShape anyAboveNine shapeFrom
 shapes-small [] e = refl
 shapes-small (c ∷ cs) e =
     let p = both-true (isShape c) (areShapes cs) e in
-    let q = both-true (not (ltb 9 (getD c 0 0))) (same c (shapeBytes (shapeFrom c))) (p .0) in
+    let q = both-true (not (ltb 9 (getD c 0 0))) (same c (shapeIn 5 (shapeFrom c))) (p .0) in
     ap₂ _||_ (not-true (ltb 9 (getD c 0 0)) (q .0)) (shapes-small cs (p .1))
 
 -- the bytes of shapes of at most nine dimensions pass
-shape-passes : (s : Shape) → s .dims ≤ 9 → isShape (shapeBytes s) ≡ true
+shape-passes : (s : Shape) → s .dims ≤ 9 → isShape (shapeIn 5 s) ≡ true
 unfolding isShape
-shape-passes s h = rw (le-ltb 9 (s .dims) h, shapeFrom-shapeBytes s, same-refl (shapeBytes s))
+shape-passes s h = rw (le-ltb 9 (s .dims) h, five-back s, same-refl (shapeIn 5 s))
 
-small-shapes : (ss : List Shape) → anyAboveNine ss ≡ false → areShapes (map shapeBytes ss) ≡ true
+small-shapes : (ss : List Shape) → anyAboveNine ss ≡ false → areShapes (map (shapeIn 5) ss) ≡ true
 small-shapes ss e =
-    shapes-all (map shapeBytes ss) (λ i l. let k : i < length ss = omega (arith, length-map ss shapeBytes) in ap isShape (getD-map shapeBytes ss i (shapeOf 0 Vanilla) [] k) ∙ shape-passes (getD ss i (shapeOf 0 Vanilla)) (dims-at i ss k e))
+    shapes-all (map (shapeIn 5) ss) (λ i l. let k : i < length ss = omega (arith, length-map ss (shapeIn 5)) in ap isShape (getD-map (shapeIn 5) ss i (shapeOf 0 Vanilla) [] k) ∙ shape-passes (getD ss i (shapeOf 0 Vanilla)) (dims-at i ss k e))
 
 -- ---- The checks pass just where the bytes are those of the sheet that they say.
 
 -- a sheet's shapes, as they stand in its bytes
-pub sheet-items : (s : Sheet) → length (s .shapes) < 256 ^ 2 → itemsIn 2 5 (sheetBytes s) ≡ map shapeBytes (s .shapes)
+pub sheet-items : (s : Sheet) → length (s .shapes) < 256 ^ 2 → itemsIn 2 5 (sheetBytes s) ≡ map (shapeIn 5) (s .shapes)
 unfolding sheetBytes
-sheet-items s h = items-section shapeBytes 5 shapeBytes-length 2 (s .shapes) (section 4 patternBytes (s .patterns)) h
+sheet-items s h = items-section (shapeIn 5) 5 five-length 2 (s .shapes) (section 4 patternBytes (s .patterns)) h
 
 -- what is said of bytes that pass
 pub said-sheet : (b : List ℕ) → isSheetBytes b ≡ true → (isSheet (said b) ≡ true) × (b ≡ sheetBytes (said b))
@@ -163,12 +143,12 @@ section-taken f g w k b h l e =
     ∙ sym (take-add w (k * countIn w b) b)
 
 -- a part that passes comes back from its shape
-shape-taken : (n : ℕ) (b : List ℕ) (i : ℕ) → areShapes (parts 5 n b) ≡ true → i < n → shapeBytes (shapeFrom (take 5 (drop (5 * i) b))) ≡ take 5 (drop (5 * i) b)
+shape-taken : (n : ℕ) (b : List ℕ) (i : ℕ) → areShapes (parts 5 n b) ≡ true → i < n → shapeIn 5 (shapeFrom (take 5 (drop (5 * i) b))) ≡ take 5 (drop (5 * i) b)
 unfolding isShape
 shape-taken n b i e h =
     let c = take 5 (drop (5 * i) b) in
     let p : isShape c ≡ true = rw (getD-parts 5 n b i h) at (shapes-at (parts 5 n b) i (omega (arith, parts-length 5 n b)) e) in
-    sym (same-true c (shapeBytes (shapeFrom c)) (both-true (not (ltb 9 (getD c 0 0))) (same c (shapeBytes (shapeFrom c))) p .1))
+    sym (same-true c (shapeIn 5 (shapeFrom c)) (both-true (not (ltb 9 (getD c 0 0))) (same c (shapeIn 5 (shapeFrom c))) p .1))
 
 -- so does one of eight bytes from its number
 pattern-taken : (n : ℕ) (b : List ℕ) (i : ℕ) → AreBytes b → 8 * n ≤ length b → i < n → patternBytes (fromLittleEndian (take 8 (drop (8 * i) b))) ≡ take 8 (drop (8 * i) b)
@@ -182,7 +162,7 @@ sheet-taken b h w =
     let k = drop-bytes n b h in
     let l = length-drop n b in
     let m : 8 * patternsSaid b ≤ length (drop 4 a) = omega (arith, w .whole, length-drop 4 a) in
-    ap₂ _++_ (section-taken shapeBytes shapeFrom 2 5 b h (omega (arith, w .shaped)) (λ i. shape-taken (shapesSaid b) (drop 2 b) i (w .shapes)))
+    ap₂ _++_ (section-taken (shapeIn 5) shapeFrom 2 5 b h (omega (arith, w .shaped)) (λ i. shape-taken (shapesSaid b) (drop 2 b) i (w .shapes)))
     (section-taken patternBytes fromLittleEndian 4 8 a k (omega (arith, w .whole)) (λ i. pattern-taken (patternsSaid b) (drop 4 a) i (drop-bytes 4 a k) m)
     ∙ take-all (4 + 8 * patternsSaid b) a (omega (arith, w .whole)))
     ∙ take-append-drop n b

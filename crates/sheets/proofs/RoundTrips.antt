@@ -3,28 +3,30 @@ use mathlib.Core.Path.{_≡_, refl, sym, ap, ap₂, _∙_}
 use mathlib.Core.Bool.{true, _&&_}
 use mathlib.Core.Logic.{⊎-elim}
 use mathlib.Core.List.{List, [], _∷_, _++_, map, append-nil}
-use Prim.Native.Nat.{ℕ, zero, suc, _+_, _*_, _^_, _≤_, _<_}
+use Prim.Native.Nat.{ℕ, zero, suc, _+_, _*_, _/_, _^_, _≤_, _<_}
 use native.Mathlib.Nat.{zero-lt-suc, le-trans, one-le-pow, pow-le-pow-right}
 use native.Mathlib.Omega.{arith}
 use lib.ListN.{length, getD, take, drop, length-take}
 use borrow.Author.Tests.{le-ltb, eq-eqb, not-false}
 use Rattle.masks.specs.declared.flavor.Flavor.the-variants.{Vanilla}
 use Rattle.masks.specs.declared.shape.Shape.{Shape}
-use Rattle.masks.specs.Outcome.{refusal, unless, shapeOf, laid, Written, refusedList, listed, Writes}
 use Rattle.masks.specs.declared.outcome.Count.{Count}
-use Rattle.sheets.specs.declared.read.SheetRead.{SheetRead}
+use Rattle.masks.specs.Outcome.{refusal, unless, shapeOf, laid, Written, refusedList, listed, Writes}
+use Rattle.masks.specs.ShapeBytes.{shapeBytes, shapeFrom}
 use Rattle.masks.specs.Text.{same}
+use Rattle.sheets.specs.declared.read.SheetRead.{SheetRead}
 use Rattle.masks.proofs.ListLaws.{split, take-laid}
 use Rattle.masks.proofs.OutcomeLaws.{past, unless-done, unless-number}
+use Rattle.masks.proofs.ShapeBytesLaws.{shapeBytes-length, shape-back}
 use Rattle.sheets.specs.declared.shapes.Shapes.{Shapes}
-use Rattle.sheets.specs.Bytes.{fromLittleEndian, section, parts, itemsIn, afterSection}
-use Rattle.sheets.specs.Format.{Sheet, shapeBytes, patternBytes, sheetBytes, bladeTotal}
-use Rattle.sheets.specs.Shapes.{shapesOf, listedShapes}
-use Rattle.sheets.specs.Read.{shapeFrom, said, isSheet, isSheetBytes, malformed, ReadOutcome, readSheetTests, readSheet, aSheet, refusedSheet, Reads}
+use Rattle.sheets.specs.Bytes.{fromLittleEndian, allBytes, section, parts, itemsIn, afterSection}
+use Rattle.sheets.specs.Format.{Sheet, shapeIn, patternBytes, sheetBytes, bladeTotal}
+use Rattle.sheets.specs.Shapes.{shapesOf, listedShapes, saidShapes}
+use Rattle.sheets.specs.Read.{said, isSheet, isSheetBytes, malformed, ReadOutcome, readSheetTests, readSheet, aSheet, refusedSheet, Reads}
 use Rattle.sheets.specs.Write.{sheetOf, writeSheetTests, writeSheet}
 use Rattle.sheets.specs.inner.Checks.{checked}
-use Rattle.sheets.proofs.BytesLaws.{AreBytes, littleEndian-length, number-littleEndian, number-lt, take-bytes, drop-bytes, items-section, after-section}
-use Rattle.sheets.proofs.FormatLaws.{shapeBytes-length, shapeFrom-shapeBytes, same-refl, sheet-within, within-sheet}
+use Rattle.sheets.proofs.BytesLaws.{AreBytes, littleEndian-length, number-littleEndian, number-lt, take-bytes, drop-bytes, allBytes-length, parts-allBytes, items-section, after-section}
+use Rattle.sheets.proofs.FormatLaws.{five-length, five-back, same-refl, sheet-within, within-sheet}
 use Rattle.sheets.proofs.PatternsLaws.{map-back}
 use Rattle.sheets.proofs.ReadLaws.{shapesSaid, patternsSaid, said-sheet, sheet-items, accepts, checked-true, read-malformed, read-no-room, read-done}
 use Rattle.sheets.proofs.ShapesLaws.{listed-length, listed-shapesOf}
@@ -58,7 +60,7 @@ sheet-patterns : (s : Sheet) → length (s .shapes) < 256 ^ 2 → length (s .pat
 unfolding sheetBytes
 sheet-patterns s g h =
     let r = section 4 patternBytes (s .patterns) in
-    ap (itemsIn 4 8) (after-section shapeBytes 5 shapeBytes-length 2 (s .shapes) r g ∙ sym (append-nil r))
+    ap (itemsIn 4 8) (after-section (shapeIn 5) 5 five-length 2 (s .shapes) r g ∙ sym (append-nil r))
     ∙ items-section patternBytes 8 (littleEndian-length 8) 4 (s .patterns) [] h
 
 module _ (s : Sheet) (e : isSheet s ≡ true) (h : ArePatterns (s .patterns)) where
@@ -69,7 +71,7 @@ module _ (s : Sheet) (e : isSheet s ≡ true) (h : ArePatterns (s .patterns)) wh
       let g : length (s .shapes) < 256 ^ 2 = omega (arith, w .few) in
       let d = shapeOf 0 Vanilla in
       ap₂ (λ (ss : List Shape) (xs : List ℕ). record { shapes = ss; patterns = xs })
-      (ap (map shapeFrom) (sheet-items s g) ∙ map-back shapeBytes shapeFrom d (s .shapes) (λ i l. shapeFrom-shapeBytes (getD (s .shapes) i d)))
+      (ap (map shapeFrom) (sheet-items s g) ∙ map-back (shapeIn 5) shapeFrom d (s .shapes) (λ i l. five-back (getD (s .shapes) i d)))
       (ap (map fromLittleEndian) (sheet-patterns s g (omega (arith, w .limited))) ∙ map-back patternBytes fromLittleEndian 0 (s .patterns) (λ i l. number-littleEndian 8 (getD (s .patterns) i 0) (h i)))
 
   bytes-pass : isSheetBytes (sheetBytes s) ≡ true
@@ -177,3 +179,17 @@ read-then-written b room {r} {before} {after} w n l =
     (ap (λ (a : SheetRead). a .shapes) (w .answered))
     (left-behind (o .sheet .patterns) before (ap (λ (a : SheetRead). a .count) (w .answered)) (w .left))
     ∙ written-of-read b (length before) room k l
+
+-- ---- a list of shapes
+
+-- shapes come back from their list
+pub list-back : (ss : List Shape) → saidShapes 6 (allBytes shapeBytes ss) ≡ ss
+unfolding saidShapes
+list-back ss =
+    let d = shapeOf 0 Vanilla in
+    let b = allBytes shapeBytes ss in
+    let n : length b / 6 ≡ length ss = omega (arith, allBytes-length shapeBytes 6 shapeBytes-length ss) in
+    ap (λ (k : ℕ). map shapeFrom (parts 6 k b)) n
+    ∙ ap (λ (l : List ℕ). map shapeFrom (parts 6 (length ss) l)) (sym (append-nil b))
+    ∙ ap (map shapeFrom) (parts-allBytes shapeBytes 6 shapeBytes-length ss [])
+    ∙ map-back shapeBytes shapeFrom d ss (λ i l. shape-back (getD ss i d))

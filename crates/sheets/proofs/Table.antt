@@ -21,6 +21,7 @@ use Rattle.masks.specs.Outcome.{shapeOf, value, unless, refusal, nought}
 use Rattle.masks.specs.Shape.{coef, negates, resized, setDims, promotes, promoted, setFlavor, conform, conformed, conformedShape}
 use Rattle.masks.specs.Build.{bladesOfSide, packing, spread}
 use Rattle.masks.specs.Text.{same}
+use Rattle.masks.specs.ShapeBytes.{shapeFrom}
 use Rattle.product.specs.Mode.{takes, flavorFor, pairMetric}
 use Rattle.product.specs.Pairwise.{metricAt, placeAt, pairsOf, term, addPair, inside, sums, product}
 use Rattle.product.specs.Products.{Counted, multiplied, generalProduct}
@@ -30,7 +31,7 @@ use Rattle.arithmetic.specs.Scalar.{allZero, isScalar, isPlanar, testOf, ifScal
 use Rattle.arithmetic.specs.Compare.{answersAgree, equals, comparedNans, comparedNumbers, comparedPlaces, comparedCounts, comparedBy, compared}
 use Rattle.sheets.specs.Bytes.{littleEndian, fromLittleEndian, allBytes, section, parts}
 use Rattle.sheets.specs.Format.{Sheet, sheetBytes, anyAboveNine, bladeTotal}
-use Rattle.sheets.specs.Read.{shapeFrom, said, isSheetBytes, aSheet, readSheet}
+use Rattle.sheets.specs.Read.{said, isSheetBytes, aSheet, readSheet}
 
 -- 5 and 7; `fraction k` is 2 to the -(k + 1)
 abbrev five : Float

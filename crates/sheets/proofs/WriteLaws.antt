@@ -13,13 +13,13 @@ use Rattle.masks.proofs.OutcomeLaws.{past, fewer-pass, rest-same}
 use Rattle.masks.proofs.TextLaws.{sets-more}
 use Rattle.sheets.specs.declared.shapes.Shapes.{Shapes}
 use Rattle.sheets.specs.Bytes.{littleEndian, allBytes, section}
-use Rattle.sheets.specs.Format.{shapeBytes, patternBytes, sheetBytes, limits}
+use Rattle.sheets.specs.Format.{shapeIn, patternBytes, sheetBytes, limits}
 use Rattle.sheets.specs.Shapes.{listedShapes}
 use Rattle.sheets.specs.Write.{sheetOf, writeSheetTests}
 use Rattle.sheets.proofs.BytesLaws.{littleEndian-length, allBytes-length}
 use Rattle.sheets.proofs.ShapesLaws.{listed-length}
 use Rattle.sheets.proofs.FormatLaws as format
-use Rattle.sheets.proofs.FormatLaws.{Within, shapeBytes-length, sheetBytes-length}
+use Rattle.sheets.proofs.FormatLaws.{Within, five-length, sheetBytes-length}
 
 -- ---- refusals
 
@@ -51,16 +51,16 @@ writable s xs room e =
 -- ---- bytes
 
 -- the four parts, written one after the other, are the sheet
-pub written : (ss : List Shape) (xs out : List ℕ) → 6 + 5 * length ss + 8 * length xs ≤ length out → sets (sets (sets (sets out 0 (littleEndian 2 (length ss))) 2 (allBytes shapeBytes ss)) (2 + 5 * length ss) (littleEndian 4 (length xs))) (6 + 5 * length ss) (allBytes patternBytes xs) ≡ laid (sheetBytes (record { shapes = ss; patterns = xs })) out
+pub written : (ss : List Shape) (xs out : List ℕ) → 6 + 5 * length ss + 8 * length xs ≤ length out → sets (sets (sets (sets out 0 (littleEndian 2 (length ss))) 2 (allBytes (shapeIn 5) ss)) (2 + 5 * length ss) (littleEndian 4 (length xs))) (6 + 5 * length ss) (allBytes patternBytes xs) ≡ laid (sheetBytes (record { shapes = ss; patterns = xs })) out
 unfolding sheetBytes section
 written ss xs out h =
     let a = littleEndian 2 (length ss) in
-    let b = allBytes shapeBytes ss in
+    let b = allBytes (shapeIn 5) ss in
     let c = littleEndian 4 (length xs) in
     let d = allBytes patternBytes xs in
     let two = littleEndian-length 2 (length ss) in
     let l = sets (sets out 0 a) 2 b in
-    let e : 2 + 5 * length ss ≡ 0 + length (a ++ b) = omega (arith, length-append a b, two, allBytes-length shapeBytes 5 shapeBytes-length ss) in
+    let e : 2 + 5 * length ss ≡ 0 + length (a ++ b) = omega (arith, length-append a b, two, allBytes-length (shapeIn 5) 5 five-length ss) in
     let f : 6 + 5 * length ss ≡ 2 + 5 * length ss + length c = omega (arith, littleEndian-length 4 (length xs)) in
     sets-more out (a ++ b) (c ++ d) 0 (2 + 5 * length ss) (sets-more out a b 0 2 refl (omega (arith, two)) refl) e
     (sets-more l c d (2 + 5 * length ss) (6 + 5 * length ss) refl f refl)

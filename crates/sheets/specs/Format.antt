@@ -3,10 +3,10 @@ use mathlib.Core.Bool.{Bool, false, not, _||_}
 use mathlib.Core.List.{List, [], _∷_, _++_}
 use Prim.Native.Nat.{ℕ, _+_, _^_}
 use lib.Dec.{eqb, ltb}
-use Rattle.masks.specs.declared.flavor.Flavor.{Flavor}
-use Rattle.masks.specs.declared.flavor.Flavor.the-variants.{Vanilla, Projective, Cl}
+use lib.ListN.{take}
 use Rattle.masks.specs.declared.shape.Shape.{Shape}
 use Rattle.masks.specs.Outcome.{Test}
+use Rattle.masks.specs.ShapeBytes.{shapeBytes}
 use Rattle.sheets.specs.Bytes.{littleEndian, section}
 
 -- A sheet has shapes, and their coefficients in shape order, each as its bit pattern.
@@ -16,23 +16,17 @@ pub record Sheet : Type 0 where
 
 -- ---- its bytes
 
--- Kind 0 Vanilla, 1 Projective or 2 Cl, then p, n, z, zero unless kind 2.
-abbrev pub flavorBytes : Flavor → List ℕ
-flavorBytes Vanilla = 0 ∷ 0 ∷ 0 ∷ 0 ∷ []
-flavorBytes Projective = 1 ∷ 0 ∷ 0 ∷ 0 ∷ []
-flavorBytes (Cl p n z) = 2 ∷ p ∷ n ∷ z ∷ []
-
--- Each shape has five bytes: dims, then its flavor's.
-abbrev pub shapeBytes : Shape → List ℕ
-shapeBytes s = s .dims ∷ flavorBytes (s .flavor)
+-- `shapeIn w` has the first w of a shape's six bytes.
+abbrev pub shapeIn : ℕ → Shape → List ℕ
+shapeIn w s = take w (shapeBytes s)
 
 -- Each coefficient has eight bytes.
 abbrev pub patternBytes : ℕ → List ℕ
 patternBytes x = littleEndian 8 x
 
--- Sections in order, each after its count: u16 shapes, u32 coefficients. Nothing follows.
+-- Sections in order, each after its count: u16 shapes, each five bytes, dims, kind, p, n, z; u32 coefficients. Nothing follows.
 unfoldable pub sheetBytes : Sheet → List ℕ
-sheetBytes s = section 2 shapeBytes (s .shapes) ++ section 4 patternBytes (s .patterns)
+sheetBytes s = section 2 (shapeIn 5) (s .shapes) ++ section 4 patternBytes (s .patterns)
 
 -- ---- its limits
 

@@ -2,34 +2,18 @@
 use mathlib.Core.Path.{_≡_}
 use mathlib.Core.Bool.{Bool, not, _&&_}
 use mathlib.Core.List.{List, [], _∷_, map}
-use Prim.Native.Nat.{ℕ, zero, suc, _/_}
+use Prim.Native.Nat.{ℕ}
 use lib.Dec.{eqb}
-use lib.ListN.{length, getD}
-use Rattle.masks.specs.declared.flavor.Flavor.{Flavor}
-use Rattle.masks.specs.declared.flavor.Flavor.the-variants.{Vanilla, Projective, Cl}
-use Rattle.masks.specs.declared.shape.Shape.{Shape}
-use Rattle.masks.specs.Outcome.{Test, refusal, noRoom, unless, shapeOf, laid}
+use lib.ListN.{length}
+use Rattle.masks.specs.Outcome.{Test, refusal, noRoom, unless, laid}
+use Rattle.masks.specs.ShapeBytes.{shapeFrom}
 use Rattle.masks.specs.Text.{same}
 use Rattle.sheets.specs.declared.read.SheetRead.{SheetRead}
-use Rattle.sheets.specs.Bytes.{fromLittleEndian, parts, itemsIn, afterSection}
+use Rattle.sheets.specs.Bytes.{fromLittleEndian, itemsIn, afterSection}
 use Rattle.sheets.specs.Format.{Sheet, sheetBytes, limits}
 use Rattle.sheets.specs.Shapes.{shapesOf}
 
 -- ---- what bytes say
-
--- Kind 0 is Vanilla, 1 Projective, and any other is taken for Cl.
-abbrev pub flavorFrom : ℕ → ℕ → ℕ → ℕ → Flavor
-flavorFrom zero p n z = Vanilla
-flavorFrom (suc zero) p n z = Projective
-flavorFrom (suc (suc k)) p n z = Cl p n z
-
--- The shape that five bytes say.
-unfoldable pub shapeFrom : List ℕ → Shape
-shapeFrom c = shapeOf (getD c 0 0) (flavorFrom (getD c 1 0) (getD c 2 0) (getD c 3 0) (getD c 4 0))
-
--- The shapes that bytes say, five bytes each.
-unfoldable pub saidShapes : List ℕ → List Shape
-saidShapes b = map shapeFrom (parts 5 (length b / 5) b)
 
 -- `said` is the sheet that bytes would be, by their counts.
 unfoldable pub said : List ℕ → Sheet

@@ -5,22 +5,18 @@ use super::shapes::MAX_SHAPES;
 use super::shapes::Shapes;
 use super::shapes::blade_total;
 use super::shapes::blank_shapes;
-use super::shapes::listed_count;
-use masks::flavor::Flavor;
+use super::shapes::shapes_by;
 use masks::outcome::DONE;
 use masks::outcome::MALFORMED;
 use masks::outcome::MAX_DIMS;
 use masks::outcome::NO_ROOM;
-use masks::outcome::shape_of;
-use masks::shape::Shape;
 ghost use mathlib.Core.Path.{_≡_};
 ghost use mathlib.Core.List.{map};
 ghost use Prim.Native.Nat.{_+_, _*_, _≤_};
 ghost use lib.ListN.{length, take, drop};
 ghost use Rattle.masks.specs.Outcome.{laid};
 ghost use Rattle.sheets.specs.Bytes.{fromLittleEndian, parts};
-ghost use Rattle.sheets.specs.Shapes.{shapesOf};
-ghost use Rattle.sheets.specs.Read.{flavorFrom, shapeFrom, saidShapes, refusedSheet, readOf, Reads, readSheet};
+ghost use Rattle.sheets.specs.Read.{said, refusedSheet, readOf, Reads, readSheet};
 ghost use Rattle.sheets.specs.inner.Checks.{isShape, areShapes, checked};
 
 // A sheet: its patterns are in the caller's output.
@@ -30,24 +26,14 @@ pub struct SheetRead {
     pub count: usize,
 }
 
-// The flavor that four numbers say: kind 0 is Vanilla, 1 Projective, and any other is taken for Cl.
-pub fn flavor_from(kind: u8, p: u8, n: u8, z: u8) -> Flavor
-    ensures { λ r. ⌜ r ≡ flavorFrom kind p n z ⌝ }
+// How many shapes bytes say that they have.
+pub fn shape_count(bytes: &[u8]) -> usize
+    ensures { λ r. ⌜ r ≡ length (said (now (bytes .entry)) .shapes) ⌝ }
 {
-    match kind {
-        0 => Flavor::Vanilla,
-        1 => Flavor::Projective,
-        _ => Flavor::Cl(p, n, z),
+    if bytes.len() < 2 {
+        return number_at(bytes, 0, bytes.len()) as usize;
     }
-}
-
-// The shape that five bytes say.
-fn shape_at(bytes: &[u8], at: usize) -> Shape
-    requires { ⌜ at + 5 ≤ length (now bytes) ⌝ }
-    ensures { λ r. ⌜ r ≡ shapeFrom (take 5 (drop at (now (bytes .entry)))) ⌝ }
-{
-    let flavor = flavor_from(bytes[at + 1], bytes[at + 2], bytes[at + 3], bytes[at + 4]);
-    shape_of(bytes[at], flavor)
+    number_at(bytes, 0, 2) as usize
 }
 
 // Whether five bytes are those of a shape of at most nine dimensions.
@@ -82,21 +68,6 @@ fn are_shapes(bytes: &[u8], n: usize) -> bool
     true
 }
 
-// The shapes that bytes say, five bytes each: all are counted, and the first 64 held.
-pub fn shapes_from(bytes: &[u8]) -> Shapes
-    ensures { λ r. ⌜ r ≡ shapesOf (saidShapes (now (bytes .entry))) ⌝ }
-{
-    let count = bytes.len() / 5;
-    let n = listed_count(count);
-    let mut held = blank_shapes();
-    let mut i: usize = 0;
-    while i < n {
-        held[i] = shape_at(bytes, 5 * i);
-        i += 1;
-    }
-    Shapes { count, held }
-}
-
 fn refused_sheet(number: u8) -> SheetRead
     ensures { λ r. ⌜ r ≡ readOf (refusedSheet number) ⌝ }
 {
@@ -127,7 +98,7 @@ fn check(bytes: &[u8]) -> SheetRead
     if !are_shapes(bytes, n) {
         return refused_sheet(MALFORMED);
     }
-    let shapes = shapes_from(&bytes[2..at]);
+    let shapes = shapes_by(&bytes[2..at], 5);
     let count = blade_total(shapes, n);
     if number_at(bytes, at, 4) != count as u64 {
         return refused_sheet(MALFORMED);

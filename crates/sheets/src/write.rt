@@ -6,21 +6,20 @@ use super::shapes::Shapes;
 use super::shapes::any_above_nine;
 use super::shapes::blade_total;
 use super::shapes::listed_count;
-use masks::flavor::Flavor;
+use super::shapes::put_shapes;
 use masks::outcome::Count;
 use masks::outcome::DONE;
 use masks::outcome::NO_ROOM;
 use masks::outcome::TOO_MANY_DIMS;
 use masks::outcome::WRONG_COUNT;
-use masks::shape::Shape;
 ghost use mathlib.Core.Path.{_≡_};
 ghost use mathlib.Core.List.{[], _∷_, _++_};
 ghost use Prim.Native.Nat.{_+_, _*_, _≤_};
-ghost use lib.ListN.{length, take};
+ghost use lib.ListN.{length};
 ghost use lib.Seq.{sets};
 ghost use Rattle.masks.specs.Outcome.{refusal, noRoom, Writes};
 ghost use Rattle.sheets.specs.Bytes.{allBytes};
-ghost use Rattle.sheets.specs.Format.{shapeBytes, patternBytes, limits};
+ghost use Rattle.sheets.specs.Format.{patternBytes, limits};
 ghost use Rattle.sheets.specs.Shapes.{listedShapes};
 ghost use Rattle.sheets.specs.Write.{writeSheet};
 
@@ -56,44 +55,6 @@ fn write_refusal(shapes: Shapes, patterns: usize, room: usize) -> u8
     DONE
 }
 
-// Five bytes, from the place `at` on.
-fn put_five(dims: u8, kind: u8, p: u8, n: u8, z: u8, at: usize, out: &mut [u8])
-    requires { ⌜ at + 5 ≤ length (now out) ⌝ }
-    ensures { λ _. ⌜ now (out .exit) ≡ sets (now (out .entry)) at (dims ∷ kind ∷ p ∷ n ∷ z ∷ []) ⌝ }
-{
-    out[at] = dims;
-    out[at + 1] = kind;
-    out[at + 2] = p;
-    out[at + 3] = n;
-    out[at + 4] = z;
-}
-
-fn put_shape(shape: Shape, at: usize, out: &mut [u8])
-    requires { ⌜ at + 5 ≤ length (now out) ⌝ }
-    ensures { λ _. ⌜ now (out .exit) ≡ sets (now (out .entry)) at (shapeBytes shape) ⌝ }
-{
-    let flavor = shape.flavor;
-    let dims = shape.dims;
-    match flavor {
-        Flavor::Vanilla => put_five(dims, 0, 0, 0, 0, at, out),
-        Flavor::Projective => put_five(dims, 1, 0, 0, 0, at, out),
-        Flavor::Cl(p, n, z) => put_five(dims, 2, p, n, z, at, out),
-    }
-}
-
-// The first n shapes, from the place `at` on.
-fn put_shapes(shapes: Shapes, n: usize, at: usize, out: &mut [u8])
-    requires { ⌜ (n ≤ 64) × (at + 5 * n ≤ length (now out)) ⌝ }
-    ensures { λ _. ⌜ now (out .exit) ≡ sets (now (out .entry)) at (allBytes shapeBytes (take n (shapes .held))) ⌝ }
-{
-    let mut i: usize = 0;
-    while i < n {
-        let s = shapes.held[i];
-        put_shape(s, at + 5 * i, out);
-        i += 1;
-    }
-}
-
 // Patterns, from the place `at` on.
 fn put_patterns(patterns: &[u64], at: usize, out: &mut [u8])
     requires { ⌜ at + 8 * length (now patterns) ≤ length (now out) ⌝ }
@@ -120,7 +81,7 @@ pub fn write(shapes: Shapes, patterns: &[u64], out: &mut [u8]) -> Count
     let n = shapes.count;
     let count = patterns.len();
     put_number(n as u64, 2, 0, out);
-    put_shapes(shapes, n, 2, out);
+    put_shapes(shapes, n, 5, 2, out);
     put_number(count as u64, 4, 2 + 5 * n, out);
     put_patterns(patterns, 6 + 5 * n, out);
     Count {

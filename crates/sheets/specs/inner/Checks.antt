@@ -5,13 +5,14 @@ use Prim.Native.Nat.{ℕ}
 use lib.Dec.{ltb}
 use lib.ListN.{getD}
 use Rattle.masks.specs.Outcome.{refusal, unless}
+use Rattle.masks.specs.ShapeBytes.{shapeFrom}
 use Rattle.masks.specs.Text.{same}
-use Rattle.sheets.specs.Format.{shapeBytes}
-use Rattle.sheets.specs.Read.{shapeFrom, said, malformed, ReadOutcome, refusedSheet, aSheet}
+use Rattle.sheets.specs.Format.{shapeIn}
+use Rattle.sheets.specs.Read.{said, malformed, ReadOutcome, refusedSheet, aSheet}
 
 -- Bytes are those of a shape of at most nine dimensions.
 unfoldable pub isShape : List ℕ → Bool
-isShape c = not (ltb 9 (getD c 0 0)) && same c (shapeBytes (shapeFrom c))
+isShape c = not (ltb 9 (getD c 0 0)) && same c (shapeIn 5 (shapeFrom c))
 
 unfoldable pub areShapes : List (List ℕ) → Bool
 areShapes [] = true

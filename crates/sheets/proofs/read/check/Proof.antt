@@ -8,15 +8,16 @@ use borrow.Author.Needs.{needs}
 use borrow.Author.Tests.{not-true, not-false}
 use lib.ListN.{length, take, drop, length-drop}
 use Rattle.masks.specs.declared.shape.Shape.{Shape}
+use Rattle.masks.specs.ShapeBytes.{shapeFrom}
 use Rattle.sheets.specs.declared.shapes.Shapes.{Shapes}
 use Rattle.sheets.specs.declared.read.SheetRead.{SheetRead}
 use Rattle.sheets.specs.Bytes.{fromLittleEndian, parts, itemsIn}
 use Rattle.sheets.specs.Format.{bladeTotal, anyAboveNine}
-use Rattle.sheets.specs.Shapes.{shapesOf}
-use Rattle.sheets.specs.Read.{shapeFrom, saidShapes, said, refusedSheet, aSheet, readOf}
+use Rattle.sheets.specs.Shapes.{shapesOf, saidShapes}
+use Rattle.sheets.specs.Read.{said, refusedSheet, aSheet, readOf}
 use Rattle.sheets.specs.inner.Checks.{areShapes, checked}
-use Rattle.sheets.proofs.ShapesLaws.{listed-shapesOf}
-use Rattle.sheets.proofs.ReadLaws.{shapesSaid, patternsSaid, shapes-count, patterns-count, saidShapes-part, WellFormed, shapes-small, checked-refused, checked-done}
+use Rattle.sheets.proofs.ShapesLaws.{listed-shapesOf, saidShapes-part}
+use Rattle.sheets.proofs.ReadLaws.{shapesSaid, patternsSaid, shapes-count, patterns-count, WellFormed, shapes-small, checked-refused, checked-done}
 use Rattle.sheets.proofs.read.check.Statement.{statement}
 use Rattle.sheets.proofs.read.check.Tie as tie
 
@@ -56,21 +57,21 @@ pass : (c : tie.Else4) → areShapes (itemsIn 2 5 (bytes (c .before .before .bef
 pass c = sym (tested (c .before)) ∙ not-false _ (c .if4 .left)
 
 -- which they are
-abbrev after-number : tie.After-shapes-from → tie.After-number-at
+abbrev after-number : tie.After-shapes-by → tie.After-number-at
 after-number a = a .before .before .before .before .before .before
 
-found : (a : tie.After-shapes-from) → a .shapes-from .result ≡ shapesOf (shapes (bytes (after-number a)))
+found : (a : tie.After-shapes-by) → a .shapes-by .result ≡ shapesOf (shapes (bytes (after-number a)))
 found a =
     let n = after-number a .number-at .result in
     let c = drop 2 (bytes (after-number a)) in
     let h : 5 * n ≤ length c = omega (arith, a .before .before .before .before .if3 .left, length-drop 2 (bytes (after-number a))) in
     let m : 2 + 5 * n - 2 ≡ 5 * n = omega arith in
-    a .shapes-from .ensures
-    ∙ ap (λ (k : ℕ). shapesOf (saidShapes (take k c))) m
-    ∙ ap shapesOf (saidShapes-part c n h)
+    a .shapes-by .ensures
+    ∙ ap (λ (k : ℕ). shapesOf (saidShapes 5 (take k c))) m
+    ∙ ap shapesOf (saidShapes-part 5 c n (omega arith) h)
     ∙ ap (λ (ps : List (List ℕ)). shapesOf (map shapeFrom ps)) (items (after-number a))
 
-listed : (a : tie.After-shapes-from) → take (after-number a .number-at .result) (a .shapes-from .result .held) ≡ shapes (bytes (after-number a))
+listed : (a : tie.After-shapes-by) → take (after-number a .number-at .result) (a .shapes-by .result .held) ≡ shapes (bytes (after-number a))
 unfolding said
 listed a =
     let b = bytes (after-number a) in
@@ -133,17 +134,17 @@ returns-4 c =
     let a = c .before .before in
     refused (bytes (a .before .before .before)) (c .refused-sheet4 .result) (c .refused-sheet4 .ensures) (λ w. true≢false (sym (w .shapes) ∙ sym (tested a) ∙ not-true _ (c .before .if4 .taken)))
 
-sub-shapes-from : tie.Need-sub-shapes-from
-sub-shapes-from c = search needs
+sub-shapes-by : tie.Need-sub-shapes-by
+sub-shapes-by c = search needs
 
-part-shapes-from-start : tie.Need-part-shapes-from-start
-part-shapes-from-start c = search needs
+part-shapes-by-start : tie.Need-part-shapes-by-start
+part-shapes-by-start c = search needs
 
-part-shapes-from-end : tie.Need-part-shapes-from-end
-part-shapes-from-end c = search needs
+part-shapes-by-end : tie.Need-part-shapes-by-end
+part-shapes-by-end c = search needs
 
-shapes-from-requires : tie.Need-shapes-from-requires
-shapes-from-requires c κs = search needs
+shapes-by-requires : tie.Need-shapes-by-requires
+shapes-by-requires c κs = search needs
 
 blade-total-requires : tie.Need-blade-total-requires
 blade-total-requires c κs =
@@ -233,10 +234,10 @@ check-spec =
     are-shapes-requires
     refused-sheet-requires-4
     returns-4
-    sub-shapes-from
-    part-shapes-from-start
-    part-shapes-from-end
-    shapes-from-requires
+    sub-shapes-by
+    part-shapes-by-start
+    part-shapes-by-end
+    shapes-by-requires
     blade-total-requires
     number-at-requires-2
     refused-sheet-requires-5

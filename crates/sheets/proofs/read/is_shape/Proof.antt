@@ -12,7 +12,7 @@ use lib.Dec.{eqb, ltb}
 use lib.ListN.{length, getD, take, drop}
 use lib.Seq.{drop-cons}
 use Rattle.masks.specs.Text.{same}
-use Rattle.sheets.specs.Read.{shapeFrom}
+use Rattle.masks.specs.ShapeBytes.{shapeFrom}
 use Rattle.sheets.specs.inner.Checks.{isShape}
 use Rattle.sheets.proofs.FormatLaws.{same-refl}
 use Rattle.sheets.proofs.read.is_shape.Statement.{statement}

@@ -10,7 +10,7 @@ use Rattle.masks.specs.Outcome.{refusal, laid}
 use Rattle.masks.proofs.OutcomeLaws.{writes-refused, writes-done}
 use Rattle.sheets.specs.declared.shapes.Shapes.{Shapes}
 use Rattle.sheets.specs.Bytes.{littleEndian, allBytes}
-use Rattle.sheets.specs.Format.{shapeBytes, patternBytes, sheetBytes}
+use Rattle.sheets.specs.Format.{shapeIn, patternBytes, sheetBytes}
 use Rattle.sheets.specs.Shapes.{listedShapes}
 use Rattle.sheets.specs.Write.{sheetOf, writeSheetTests, writeSheet}
 use Rattle.sheets.proofs.FormatLaws.{sheetBytes-length}
@@ -35,7 +35,7 @@ fits i =
     writable (a .shapes) (a .patterns .now) (length (a .out .now)) (sym (i .before .write-refusal .ensures) ∙ i .if1 .left)
 
 -- the four parts, each written on what the one before it left
-parts : (s : Shapes) (xs out : List ℕ) → length (listedShapes s) ≡ s .count → 6 + 5 * s .count + 8 * length xs ≤ length out → {a b c d : List ℕ} → a ≡ sets out 0 (littleEndian 2 (s .count)) → b ≡ sets a 2 (allBytes shapeBytes (listedShapes s)) → c ≡ sets b (2 + 5 * s .count) (littleEndian 4 (length xs)) → d ≡ sets c (6 + 5 * s .count) (allBytes patternBytes xs) → d ≡ laid (sheetBytes (sheetOf s xs)) out
+parts : (s : Shapes) (xs out : List ℕ) → length (listedShapes s) ≡ s .count → 6 + 5 * s .count + 8 * length xs ≤ length out → {a b c d : List ℕ} → a ≡ sets out 0 (littleEndian 2 (s .count)) → b ≡ sets a 2 (allBytes (shapeIn 5) (listedShapes s)) → c ≡ sets b (2 + 5 * s .count) (littleEndian 4 (length xs)) → d ≡ sets c (6 + 5 * s .count) (allBytes patternBytes xs) → d ≡ laid (sheetBytes (sheetOf s xs)) out
 parts s xs out e h p q r t = rw (t, r, q, p) (rw e at (written (listedShapes s) xs out (rw e h)))
 
 -- the places on the way: where each part was written, and the entry
@@ -55,8 +55,8 @@ entry n = passed n .before .before .before .before
 long : (n : tie.After-put-number) → length (n .put-number .last .1 .1 .1 .0) ≡ length (entry n .args .out .now)
 long n = n .put-number .kept .1 .1 .1 .0
 
-long-2 : (s : tie.After-put-shapes) → length (s .put-shapes .last .1 .1 .1 .0) ≡ length (entry (number-of s) .args .out .now)
-long-2 s = s .put-shapes .kept .1 .1 .1 .0 ∙ long (number-of s)
+long-2 : (s : tie.After-put-shapes) → length (s .put-shapes .last .1 .1 .1 .1 .0) ≡ length (entry (number-of s) .args .out .now)
+long-2 s = s .put-shapes .kept .1 .1 .1 .1 .0 ∙ long (number-of s)
 
 long-3 : (m : tie.After-put-number2) → length (m .put-number2 .last .1 .1 .1 .0) ≡ length (entry (number-of (shapes-of m)) .args .out .now)
 long-3 m = m .put-number2 .kept .1 .1 .1 .0 ∙ long-2 (shapes-of m)
@@ -77,7 +77,7 @@ put-shapes-requires : tie.Need-put-shapes-requires
 put-shapes-requires c κs =
     let n = c .before .before .before in
     let w = fits (passed n) in
-    (w .within .few, omega (arith, w .roomy, long n))
+    (w .within .few, omega arith, omega (arith, w .roomy, long n))
 
 mul-put-number : tie.Need-mul-put-number
 mul-put-number c = omega (arith, fits (passed (number-of (c .before .before))) .within .few)
