@@ -26,10 +26,10 @@ one-reported t u = (t .returned ∙ sym (u .returned), t .holding ∙ sym (u .ho
 pub one-value : {o : Outcome} {r s : ℕ} {before after other : List Float} {held holds keeps : List ℕ} → ReportsValue o r before after held holds → ReportsValue o s before other held keeps → (r ≡ s) × (holds ≡ keeps) × (after ≡ other)
 one-value t u = let q = one-reported (t .reports) (u .reports) in (q .0, q .1, t .left ∙ sym (u .left))
 
-pub one-pair : {o : Pair} {r s : ℕ} {before after other beforeRight afterRight otherRight : List Float} {held holds keeps : List ℕ} → ReportsPair o r before after beforeRight afterRight held holds → ReportsPair o s before other beforeRight otherRight held keeps → (r ≡ s) × (holds ≡ keeps) × (after ≡ other) × (afterRight ≡ otherRight)
+pub one-pair : {o : Pair} {r s : ℕ} {before after other beforeRight afterRight otherRight : List Float} {held holds keeps : List ℕ × List ℕ} → ReportsPair o r before after beforeRight afterRight held holds → ReportsPair o s before other beforeRight otherRight held keeps → (r ≡ s) × (holds ≡ keeps) × (after ≡ other) × (afterRight ≡ otherRight)
 one-pair t u = let q = one-reported (t .reports) (u .reports) in (q .0, q .1, t .left ∙ sym (u .left), t .right ∙ sym (u .right))
 
-pub one-product : {o : Counted} {r s : ℕ} {before after other : List Float} {held holds keeps : List ℕ} → ReportsProduct o r before after held holds → ReportsProduct o s before other held keeps → (r ≡ s) × (holds ≡ keeps) × (after ≡ other)
+pub one-product : {o : Counted} {r s : ℕ} {before after other : List Float} {held holds keeps : List ℕ × ℕ} → ReportsProduct o r before after held holds → ReportsProduct o s before other held keeps → (r ≡ s) × (holds ≡ keeps) × (after ≡ other)
 one-product t u = let q = one-reported (t .reports) (u .reports) in (q .0, q .1, t .left ∙ sym (u .left))
 
 pub one-taken : {o : Halves} {r s : ℕ} {before after other : List Float} {held holds keeps : List ℕ × Float} → ReportsTaken o r before after held holds → ReportsTaken o s before other held keeps → (r ≡ s) × (holds ≡ keeps) × (after ≡ other)
@@ -38,8 +38,8 @@ one-taken t u = let q = one-reported (t .reports) (u .reports) in (q .0, q .1, t
 pub one-list : {A : Type 0} {o : Written A} {r s : ℕ} {before after other : List A} {held holds keeps : ℕ} → ReportsList o r before after held holds → ReportsList o s before other held keeps → (r ≡ s) × (holds ≡ keeps) × (after ≡ other)
 one-list t u = let q = one-reported (t .reports) (u .reports) in (q .0, q .1, t .left ∙ sym (u .left))
 
-pub one-sheet : {o : ReadOutcome} {bytes : List ℕ} {r s : ℕ} {before after other held holds keeps : List ℕ} → ReportsSheet o bytes r before after held holds → ReportsSheet o bytes s before other held keeps → (r ≡ s) × (holds ≡ keeps) × (after ≡ other)
-one-sheet t u = let q = one-reported (t .reports) (u .reports) in (q .0, q .1, t .left ∙ sym (u .left))
+pub one-sheet : {o : ReadOutcome} {r s : ℕ} {beforeShapes afterShapes otherShapes before after other held holds keeps : List ℕ} → ReportsSheet o r beforeShapes afterShapes before after held holds → ReportsSheet o s beforeShapes otherShapes before other held keeps → (r ≡ s) × (holds ≡ keeps) × (afterShapes ≡ otherShapes) × (after ≡ other)
+one-sheet t u = let q = one-reported (t .reports) (u .reports) in (q .0, q .1, t .shapes ∙ sym (u .shapes), t .left ∙ sym (u .left))
 
 pub one-order : {d r s : ℕ} {before after other beforeRight afterRight otherRight : List ℕ} {held holds keeps : ℕ} → ReportsOrderOf d r before after beforeRight afterRight held holds → ReportsOrderOf d s before other beforeRight otherRight held keeps → (r ≡ s) × (holds ≡ keeps) × (after ≡ other) × (afterRight ≡ otherRight)
 one-order {d} {before = before} {beforeRight = beforeRight} t u =

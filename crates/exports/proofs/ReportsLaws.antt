@@ -41,7 +41,7 @@ value-reported {r = r} {before = before} {held = held} {holds = holds} e g repor
       left = g .left ∙ ap (λ (q : Outcome). laid (q .coefs) before) e;
     }
 
-pub pair-reported : {o p : Pair} {a : Answers} {r : ℕ} {before after beforeRight afterRight : List Float} {held holds : List ℕ} → o ≡ p → GivesBoth o a before after beforeRight afterRight → ReportsAnswers a r held holds → ReportsPair p r before after beforeRight afterRight held holds
+pub pair-reported : {o p : Pair} {a : Answers} {r : ℕ} {before after beforeRight afterRight : List Float} {held holds : List ℕ × List ℕ} → o ≡ p → GivesBoth o a before after beforeRight afterRight → ReportsAnswers a r held holds → ReportsPair p r before after beforeRight afterRight held holds
 pair-reported {r = r} {before = before} {beforeRight = beforeRight} {held = held} {holds = holds} e g reported =
     record {
       reports = subst (λ (b : Answers). ReportsAnswers b r held holds) (g .answered ∙ ap (λ (q : Pair). answersOf q) e) reported;
@@ -49,7 +49,7 @@ pair-reported {r = r} {before = before} {beforeRight = beforeRight} {held = held
       right = g .right ∙ ap (λ (q : Pair). laid (q .rightCoefs) beforeRight) e;
     }
 
-pub product-reported : {o p : Counted} {a : Product} {r : ℕ} {before after : List Float} {held holds : List ℕ} → o ≡ p → GivesProduct o a before after → ReportsPairs a r held holds → ReportsProduct p r before after held holds
+pub product-reported : {o p : Counted} {a : Product} {r : ℕ} {before after : List Float} {held holds : List ℕ × ℕ} → o ≡ p → GivesProduct o a before after → ReportsPairs a r held holds → ReportsProduct p r before after held holds
 product-reported {r = r} {before = before} {held = held} {holds = holds} e g reported =
     record {
       reports = subst (λ (b : Product). ReportsPairs b r held holds) (g .answered ∙ ap (λ (q : Counted). productOf q) e) reported;

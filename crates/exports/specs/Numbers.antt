@@ -1,19 +1,17 @@
--- Shapes, flavors and answers as numbers. Assumes nothing.
+-- The version, and answers as numbers. Assumes nothing.
 use mathlib.Core.Bool.{Bool, cond}
 use Prim.Native.Nat.{ℕ}
 use lib.Ieee.{Float}
 use lib.IntN.{ℤ, pos, negsuc}
-use Rattle.masks.specs.declared.shape.Shape.{Shape}
-use Rattle.masks.specs.Outcome.{shapeOf, nought}
+use Rattle.masks.specs.Outcome.{nought}
 use Rattle.arithmetic.specs.declared.outcome.Ordering.{Ordering}
 use Rattle.arithmetic.specs.declared.outcome.Ordering.the-variants.{Less, Equal, Greater}
 use Rattle.arithmetic.specs.declared.scalar.ScalarTest.{ScalarTest}
 use Rattle.arithmetic.specs.declared.scalar.ScalarTest.the-variants.{Scalar, Planar, Neither}
-use Rattle.sheets.specs.Read.{flavorFrom}
 
--- A shape is dims, kind, p, n, z as in the sheet; any kind above 1 is Cl.
-abbrev pub shaped : ℕ → ℕ → ℕ → ℕ → ℕ → Shape
-shaped d k p n z = shapeOf d (flavorFrom k p n z)
+-- 0.2.0: major times 10,000, minor times 100, and patch.
+abbrev pub version : ℕ
+version = 200
 
 -- No is 0 and yes is 1.
 abbrev pub yesNumber : Bool → ℕ

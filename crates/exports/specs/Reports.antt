@@ -1,6 +1,6 @@
 -- What an exported call returns, and what its references and outputs hold after it. Assumes nothing.
 use mathlib.Core.Path.{_≡_}
-use mathlib.Core.List.{List, [], _∷_, _++_}
+use mathlib.Core.List.{List, [], _∷_}
 use Prim.Native.Nat.{ℕ}
 use lib.Ieee.{Float}
 use lib.IntN.{ℤ}
@@ -9,7 +9,8 @@ use Rattle.masks.specs.declared.outcome.Answers.{Answers}
 use Rattle.masks.specs.declared.outcome.Count.{Count}
 use Rattle.masks.specs.declared.outcome.Real.{Real}
 use Rattle.masks.specs.declared.text.Read.{Read}
-use Rattle.masks.specs.Outcome.{Outcome, Pair, Written, answerOf, answersOf, countOf, unless, laid}
+use Rattle.masks.specs.Outcome.{Outcome, Pair, Written, answerOf, answersOf, countOf, shapeOf, unless, laid}
+use Rattle.masks.specs.ShapeBytes.{shapeBytes}
 use Rattle.product.specs.declared.outcome.Product.{Product}
 use Rattle.product.specs.Products.{Counted, productOf}
 use Rattle.arithmetic.specs.declared.outcome.YesNo.{YesNo}
@@ -18,7 +19,6 @@ use Rattle.arithmetic.specs.declared.outcome.Taken.{Taken}
 use Rattle.arithmetic.specs.declared.scalar.Tested.{Tested}
 use Rattle.arithmetic.specs.Kept.{Halves, takenOf}
 use Rattle.sheets.specs.declared.values.Placed.{Placed}
-use Rattle.sheets.specs.Format.{flavorBytes, shapeBytes}
 use Rattle.exports.specs.Numbers.{yesNumber, orderNumber, testNumber, realPart, imaginaryPart}
 
 -- ---- references
@@ -32,13 +32,13 @@ pub record Reports {A : Type 0} (k : ℕ) (x : A) (r : ℕ) (held holds : A) : T
   pub returned : r ≡ k
   pub holding : holds ≡ reported k x held
 
--- ---- what is reported of each kind of answer
+-- ---- what is reported of each kind of answer: a shape by its six bytes
 
 abbrev pub ReportsAnswer : Answer → ℕ → List ℕ → List ℕ → Type 0
 ReportsAnswer o = Reports (o .number) (shapeBytes (o .shape))
 
-abbrev pub ReportsAnswers : Answers → ℕ → List ℕ → List ℕ → Type 0
-ReportsAnswers o = Reports (o .number) (shapeBytes (o .left) ++ shapeBytes (o .right))
+abbrev pub ReportsAnswers : Answers → ℕ → List ℕ × List ℕ → List ℕ × List ℕ → Type 0
+ReportsAnswers o = Reports (o .number) (shapeBytes (o .left), shapeBytes (o .right))
 
 abbrev pub ReportsCount : Count → ℕ → ℕ → ℕ → Type 0
 ReportsCount o = Reports (o .number) (o .count)
@@ -46,11 +46,12 @@ ReportsCount o = Reports (o .number) (o .count)
 abbrev pub ReportsNumber : Real → ℕ → Float → Float → Type 0
 ReportsNumber o = Reports (o .number) (o .value)
 
+-- A flavor is reported as the shape of 0 dimensions.
 abbrev pub ReportsFlavor : Read → ℕ → List ℕ → List ℕ → Type 0
-ReportsFlavor o = Reports (o .number) (flavorBytes (o .flavor))
+ReportsFlavor o = Reports (o .number) (shapeBytes (shapeOf 0 (o .flavor)))
 
-abbrev pub ReportsPairs : Product → ℕ → List ℕ → List ℕ → Type 0
-ReportsPairs o = Reports (o .number) (shapeBytes (o .shape) ++ (o .pairs ∷ []))
+abbrev pub ReportsPairs : Product → ℕ → List ℕ × ℕ → List ℕ × ℕ → Type 0
+ReportsPairs o = Reports (o .number) (shapeBytes (o .shape), o .pairs)
 
 abbrev pub ReportsYesNo : YesNo → ℕ → ℕ → ℕ → Type 0
 ReportsYesNo o = Reports (o .number) (yesNumber (o .yes))
@@ -64,8 +65,8 @@ ReportsTest o = Reports (o .number) (testNumber (o .test), realPart (o .test) �
 abbrev pub ReportsScalar : Taken → ℕ → List ℕ × Float → List ℕ × Float → Type 0
 ReportsScalar o = Reports (o .number) (shapeBytes (o .shape), o .value)
 
-abbrev pub ReportsPlace : Placed → ℕ → List ℕ → List ℕ → Type 0
-ReportsPlace o = Reports (o .number) (shapeBytes (o .shape) ++ (o .start ∷ []))
+abbrev pub ReportsPlace : Placed → ℕ → List ℕ × ℕ → List ℕ × ℕ → Type 0
+ReportsPlace o = Reports (o .number) (shapeBytes (o .shape), o .start)
 
 -- ---- with an output, before and after
 
@@ -73,12 +74,12 @@ pub record ReportsValue (o : Outcome) (r : ℕ) (before after : List Float) (hel
   pub reports : ReportsAnswer (answerOf o) r held holds
   pub left : after ≡ laid (o .coefs) before
 
-pub record ReportsPair (o : Pair) (r : ℕ) (before after beforeRight afterRight : List Float) (held holds : List ℕ) : Type 0 where
+pub record ReportsPair (o : Pair) (r : ℕ) (before after beforeRight afterRight : List Float) (held holds : List ℕ × List ℕ) : Type 0 where
   pub reports : ReportsAnswers (answersOf o) r held holds
   pub left : after ≡ laid (o .leftCoefs) before
   pub right : afterRight ≡ laid (o .rightCoefs) beforeRight
 
-pub record ReportsProduct (o : Counted) (r : ℕ) (before after : List Float) (held holds : List ℕ) : Type 0 where
+pub record ReportsProduct (o : Counted) (r : ℕ) (before after : List Float) (held holds : List ℕ × ℕ) : Type 0 where
   pub reports : ReportsPairs (productOf o) r held holds
   pub left : after ≡ laid (o .outcome .coefs) before
 

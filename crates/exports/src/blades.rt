@@ -1,16 +1,16 @@
 // Single blades, and single grades.
-use super::numbers::shape_from;
 use super::reports::report;
 use super::reports::report_number;
 use masks::order::grade_size;
 use masks::outcome::DONE;
+use masks::shape_bytes::shape_from;
 ghost use mathlib.Core.Path.{_≡_};
 ghost use mathlib.Core.List.{[], _∷_};
 ghost use Prim.Native.Nat.{_≤_};
 ghost use lib.ListN.{length};
 ghost use Rattle.masks.specs.Order.{start, size};
 ghost use Rattle.masks.specs.Blade.{getBlade, setBlade, gradeRefusal};
-ghost use Rattle.exports.specs.Numbers.{shaped};
+ghost use Rattle.masks.specs.ShapeBytes.{shapeFrom};
 ghost use Rattle.exports.specs.Reports.{Reports, ReportsNumber, ReportsValue};
 
 // The size of a grade of dims that are at most 9.
@@ -39,77 +39,46 @@ fn start_of(dims: u8, grade: u8) -> usize
 // The coefficient of a mask, +0 for a mask outside.
 #[no_mangle]
 pub extern "C" fn thresholm_get_blade(
-    dims: u8,
-    kind: u8,
-    p: u8,
-    n: u8,
-    z: u8,
+    shape: &[u8; 6],
     mask: usize,
     a: &[f64],
     to_value: &mut f64,
 ) -> u8
-    ensures { λ r. ⌜ ReportsNumber (getBlade (shaped dims kind p n z) mask (now (a .entry))) r (now («to_value» .entry)) (now («to_value» .exit)) ⌝ }
+    ensures { λ r. ⌜ ReportsNumber (getBlade (shapeFrom (now (shape .entry))) mask (now (a .entry))) r (now («to_value» .entry)) (now («to_value» .exit)) ⌝ }
 {
-    report_number(shape_from(dims, kind, p, n, z).get_blade(mask, a), to_value)
+    report_number(shape_from(shape).get_blade(mask, a), to_value)
 }
 
 // The value with x at a mask, grown where the mask is outside.
 #[no_mangle]
 pub extern "C" fn thresholm_set_blade(
-    dims: u8,
-    kind: u8,
-    p: u8,
-    n: u8,
-    z: u8,
+    shape: &[u8; 6],
     mask: usize,
     x: f64,
     a: &[f64],
     out: &mut [f64],
-    to_dims: &mut u8,
-    to_kind: &mut u8,
-    to_p: &mut u8,
-    to_n: &mut u8,
-    to_z: &mut u8,
+    to_shape: &mut [u8; 6],
 ) -> u8
-    ensures { λ r. ⌜ ReportsValue (setBlade (shaped dims kind p n z) mask x (now (a .entry)) (length (now (out .entry)))) r (now (out .entry)) (now (out .exit)) (now («to_dims» .entry) ∷ now («to_kind» .entry) ∷ now («to_p» .entry) ∷ now («to_n» .entry) ∷ now («to_z» .entry) ∷ []) (now («to_dims» .exit) ∷ now («to_kind» .exit) ∷ now («to_p» .exit) ∷ now («to_n» .exit) ∷ now («to_z» .exit) ∷ []) ⌝ }
+    ensures { λ r. ⌜ ReportsValue (setBlade (shapeFrom (now (shape .entry))) mask x (now (a .entry)) (length (now (out .entry)))) r (now (out .entry)) (now (out .exit)) (now («to_shape» .entry)) (now («to_shape» .exit)) ⌝ }
 {
-    let answer = shape_from(dims, kind, p, n, z).set_blade(mask, x, a, out);
-    report(answer, to_dims, to_kind, to_p, to_n, to_z)
-}
-
-// The number that a grade is refused with, or 0.
-#[no_mangle]
-pub extern "C" fn thresholm_grade_refusal(
-    dims: u8,
-    kind: u8,
-    p: u8,
-    n: u8,
-    z: u8,
-    grade: u8,
-    a: &[f64],
-) -> u8
-    ensures { λ r. ⌜ r ≡ gradeRefusal (shaped dims kind p n z) grade (now (a .entry)) ⌝ }
-{
-    let shape = shape_from(dims, kind, p, n, z);
-    shape.grade_refusal(grade, a)
+    let answer = shape_from(shape).set_blade(mask, x, a, out);
+    report(answer, to_shape)
 }
 
 // One grade of a value: the place at which it starts, and how many numbers it has.
 #[no_mangle]
 pub extern "C" fn thresholm_grade(
-    dims: u8,
-    kind: u8,
-    p: u8,
-    n: u8,
-    z: u8,
+    shape: &[u8; 6],
     grade: u8,
     a: &[f64],
     to_start: &mut usize,
     to_count: &mut usize,
 ) -> u8
-    ensures { λ r. ⌜ Reports (gradeRefusal (shaped dims kind p n z) grade (now (a .entry))) (start dims grade ∷ size dims grade ∷ []) r (now («to_start» .entry) ∷ now («to_count» .entry) ∷ []) (now («to_start» .exit) ∷ now («to_count» .exit) ∷ []) ⌝ }
+    ensures { λ r. ⌜ Reports (gradeRefusal (shapeFrom (now (shape .entry))) grade (now (a .entry))) (start (shapeFrom (now (shape .entry)) .dims) grade ∷ size (shapeFrom (now (shape .entry)) .dims) grade ∷ []) r (now («to_start» .entry) ∷ now («to_count» .entry) ∷ []) (now («to_start» .exit) ∷ now («to_count» .exit) ∷ []) ⌝ }
 {
-    let number = shape_from(dims, kind, p, n, z).grade_refusal(grade, a);
+    let own = shape_from(shape);
+    let dims = own.dims;
+    let number = own.grade_refusal(grade, a);
     if number != DONE {
         return number;
     }

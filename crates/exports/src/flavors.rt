@@ -1,96 +1,54 @@
 // Flavors, and their text.
+use super::numbers::flavor_in;
 use super::numbers::metric_number;
 use super::reports::report_count;
-use super::reports::report_flavor;
 use super::reports::report_read;
 use masks::flavor::Flavor;
-use masks::flavor::null_flavor;
 use masks::shape::promotion;
-use sheets::read::flavor_from;
 ghost use mathlib.Core.Path.{_≡_};
-ghost use mathlib.Core.List.{[], _∷_};
 ghost use lib.ListN.{length};
-ghost use Rattle.masks.specs.Flavor.{metricOf, nullFlavor, addedDims};
+ghost use Rattle.masks.specs.Flavor.{metricOf, addedDims};
 ghost use Rattle.masks.specs.Shape.{promotes};
+ghost use Rattle.masks.specs.ShapeBytes.{shapeFrom};
 ghost use Rattle.masks.specs.Text.{readFlavor, writeFlavor};
-ghost use Rattle.sheets.specs.Format.{flavorBytes};
-ghost use Rattle.sheets.specs.Read.{flavorFrom};
 ghost use Rattle.exports.specs.Reports.{ReportsFlavor, ReportsList};
 
 // What the basis vector of an index squares to.
 #[no_mangle]
-pub extern "C" fn thresholm_metric(kind: u8, p: u8, n: u8, z: u8, index: u8) -> i8
-    ensures { λ r. ⌜ r ≡ metricOf (flavorFrom kind p n z) index ⌝ }
+pub extern "C" fn thresholm_metric(flavor: &[u8; 6], index: u8) -> i8
+    ensures { λ r. ⌜ r ≡ metricOf (shapeFrom (now (flavor .entry)) .flavor) index ⌝ }
 {
-    metric_number(flavor_from(kind, p, n, z).metric(index))
-}
-
-// The flavor in which every basis vector that a value has squares to 0.
-#[no_mangle]
-pub extern "C" fn thresholm_null_flavor(
-    to_kind: &mut u8,
-    to_p: &mut u8,
-    to_n: &mut u8,
-    to_z: &mut u8,
-)
-    ensures { λ _. ⌜ (now («to_kind» .exit) ∷ now («to_p» .exit) ∷ now («to_n» .exit) ∷ now («to_z» .exit) ∷ []) ≡ flavorBytes nullFlavor ⌝ }
-{
-    report_flavor(null_flavor(), to_kind, to_p, to_n, to_z);
+    metric_number(flavor_in(flavor).metric(index))
 }
 
 // The dimensions that a flavor adds to those that are stated.
 #[no_mangle]
-pub extern "C" fn thresholm_added_dims(kind: u8, p: u8, n: u8, z: u8) -> u8
-    ensures { λ r. ⌜ r ≡ addedDims (flavorFrom kind p n z) ⌝ }
+pub extern "C" fn thresholm_added_dims(flavor: &[u8; 6]) -> u8
+    ensures { λ r. ⌜ r ≡ addedDims (shapeFrom (now (flavor .entry)) .flavor) ⌝ }
 {
-    flavor_from(kind, p, n, z).added_dims()
+    flavor_in(flavor).added_dims()
 }
 
 // The dimensions that a change from one flavor to another adds.
 #[no_mangle]
-pub extern "C" fn thresholm_promotion(
-    kind: u8,
-    p: u8,
-    n: u8,
-    z: u8,
-    kind_right: u8,
-    p_right: u8,
-    n_right: u8,
-    z_right: u8,
-) -> u8
-    ensures { λ r. ⌜ r ≡ promotes (flavorFrom kind p n z) (flavorFrom «kind_right» «p_right» «n_right» «z_right») ⌝ }
+pub extern "C" fn thresholm_promotion(flavor: &[u8; 6], new_flavor: &[u8; 6]) -> u8
+    ensures { λ r. ⌜ r ≡ promotes (shapeFrom (now (flavor .entry)) .flavor) (shapeFrom (now («new_flavor» .entry)) .flavor) ⌝ }
 {
-    promotion(
-        flavor_from(kind, p, n, z),
-        flavor_from(kind_right, p_right, n_right, z_right),
-    )
+    promotion(flavor_in(flavor), flavor_in(new_flavor))
 }
 
-// The flavor that a text says.
+// The flavor that a text says, as the shape of 0 dimensions.
 #[no_mangle]
-pub extern "C" fn thresholm_try_from_str(
-    t: &[u8],
-    to_kind: &mut u8,
-    to_p: &mut u8,
-    to_n: &mut u8,
-    to_z: &mut u8,
-) -> u8
-    ensures { λ r. ⌜ ReportsFlavor (readFlavor (now (t .entry))) r (now («to_kind» .entry) ∷ now («to_p» .entry) ∷ now («to_n» .entry) ∷ now («to_z» .entry) ∷ []) (now («to_kind» .exit) ∷ now («to_p» .exit) ∷ now («to_n» .exit) ∷ now («to_z» .exit) ∷ []) ⌝ }
+pub extern "C" fn thresholm_try_from_str(t: &[u8], to_flavor: &mut [u8; 6]) -> u8
+    ensures { λ r. ⌜ ReportsFlavor (readFlavor (now (t .entry))) r (now («to_flavor» .entry)) (now («to_flavor» .exit)) ⌝ }
 {
-    report_read(Flavor::try_from_str(t), to_kind, to_p, to_n, to_z)
+    report_read(Flavor::try_from_str(t), to_flavor)
 }
 
 // The text of a flavor, and how many bytes it has.
 #[no_mangle]
-pub extern "C" fn thresholm_write_to(
-    kind: u8,
-    p: u8,
-    n: u8,
-    z: u8,
-    out: &mut [u8],
-    to_count: &mut usize,
-) -> u8
-    ensures { λ r. ⌜ ReportsList (writeFlavor (flavorFrom kind p n z) (length (now (out .entry)))) r (now (out .entry)) (now (out .exit)) (now («to_count» .entry)) (now («to_count» .exit)) ⌝ }
+pub extern "C" fn thresholm_write_to(flavor: &[u8; 6], out: &mut [u8], to_count: &mut usize) -> u8
+    ensures { λ r. ⌜ ReportsList (writeFlavor (shapeFrom (now (flavor .entry)) .flavor) (length (now (out .entry)))) r (now (out .entry)) (now (out .exit)) (now («to_count» .entry)) (now («to_count» .exit)) ⌝ }
 {
-    report_count(flavor_from(kind, p, n, z).write_to(out), to_count)
+    report_count(flavor_in(flavor).write_to(out), to_count)
 }

@@ -1,5 +1,5 @@
-// The C face: every public call again, on numbers, slices and references to numbers alone. A shape is dims, kind, p, n, z, as in the
-// sheet; any kind above 1 is Cl. A refused call reports nothing and writes nothing.
+// The C face: the calls that users need, on numbers, slices, and references to numbers and to shapes. A shape is six bytes: dims, kind, p,
+// n, z, mark (masks, shape_bytes). A refused call reports nothing and writes nothing.
 pub mod blades;
 pub mod build;
 pub mod compare;
@@ -8,9 +8,9 @@ mod numbers;
 pub mod operators;
 pub mod order;
 pub mod products;
-pub mod refusals;
 mod reports;
 pub mod shapes;
 pub mod sheet;
 pub mod unpack;
 pub mod values;
+pub mod version;

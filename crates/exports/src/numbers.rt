@@ -1,18 +1,19 @@
-// Shapes from numbers, and numbers for what has none.
+// A flavor from bytes, and numbers for what has none.
 use arithmetic::outcome::Ordering;
+use masks::flavor::Flavor;
 use masks::flavor::Metric;
-use masks::outcome::shape_of;
-use masks::shape::Shape;
-use sheets::read::flavor_from;
+use masks::shape_bytes::shape_from;
 ghost use mathlib.Core.Path.{_≡_};
 ghost use Rattle.masks.specs.Flavor.{metricValue};
-ghost use Rattle.exports.specs.Numbers.{shaped, yesNumber, orderNumber};
+ghost use Rattle.masks.specs.ShapeBytes.{shapeFrom};
+ghost use Rattle.exports.specs.Numbers.{yesNumber, orderNumber};
 
-// The shape that five numbers say.
-pub(crate) fn shape_from(dims: u8, kind: u8, p: u8, n: u8, z: u8) -> Shape
-    ensures { λ r. ⌜ r ≡ shaped dims kind p n z ⌝ }
+// The flavor of the shape that six bytes say: the dims are not looked at.
+pub(crate) fn flavor_in(bytes: &[u8; 6]) -> Flavor
+    ensures { λ r. ⌜ r ≡ shapeFrom (now (bytes .entry)) .flavor ⌝ }
 {
-    shape_of(dims, flavor_from(kind, p, n, z))
+    let shape = shape_from(bytes);
+    shape.flavor
 }
 
 pub(crate) fn metric_number(metric: Metric) -> i8

@@ -6,124 +6,49 @@ use arithmetic::outcome::Taken;
 use arithmetic::outcome::YesNo;
 use arithmetic::scalar::ScalarTest;
 use arithmetic::scalar::Tested;
-use masks::flavor::Flavor;
 use masks::outcome::Answer;
 use masks::outcome::Answers;
 use masks::outcome::Count;
 use masks::outcome::DONE;
 use masks::outcome::Real;
-use masks::shape::Shape;
+use masks::outcome::shape_of;
+use masks::shape_bytes::shape_bytes;
 use masks::text::Read;
 use product::outcome::Product;
 use sheets::read::SheetRead;
 use sheets::values::Placed;
 ghost use mathlib.Core.Path.{_≡_};
 ghost use mathlib.Core.List.{[], _∷_};
-ghost use Rattle.sheets.specs.Format.{flavorBytes, shapeBytes};
 ghost use Rattle.exports.specs.Numbers.{testNumber, realPart, imaginaryPart};
 ghost use Rattle.exports.specs.Reports.{ReportsAnswer, ReportsAnswers, ReportsCount, ReportsNumber, ReportsFlavor, ReportsPairs, ReportsYesNo, ReportsOrder, ReportsTest, ReportsScalar, ReportsPlace};
 ghost use Rattle.exports.specs.Sheet.{ReportsCounts};
 
-// Four numbers.
-fn report_four(
-    kind: u8,
-    p: u8,
-    n: u8,
-    z: u8,
-    to_kind: &mut u8,
-    to_p: &mut u8,
-    to_n: &mut u8,
-    to_z: &mut u8,
-)
-    ensures { λ _. ⌜ (now («to_kind» .exit) ∷ now («to_p» .exit) ∷ now («to_n» .exit) ∷ now («to_z» .exit) ∷ []) ≡ (kind ∷ p ∷ n ∷ z ∷ []) ⌝ }
-{
-    *to_kind = kind;
-    *to_p = p;
-    *to_n = n;
-    *to_z = z;
-}
-
-// A flavor.
-pub(crate) fn report_flavor(
-    flavor: Flavor,
-    to_kind: &mut u8,
-    to_p: &mut u8,
-    to_n: &mut u8,
-    to_z: &mut u8,
-)
-    ensures { λ _. ⌜ (now («to_kind» .exit) ∷ now («to_p» .exit) ∷ now («to_n» .exit) ∷ now («to_z» .exit) ∷ []) ≡ flavorBytes flavor ⌝ }
-{
-    match flavor {
-        Flavor::Vanilla => report_four(0, 0, 0, 0, to_kind, to_p, to_n, to_z),
-        Flavor::Projective => report_four(1, 0, 0, 0, to_kind, to_p, to_n, to_z),
-        Flavor::Cl(p, n, z) => report_four(2, p, n, z, to_kind, to_p, to_n, to_z),
-    }
-}
-
-// A shape.
-pub(crate) fn report_shape(
-    shape: Shape,
-    to_dims: &mut u8,
-    to_kind: &mut u8,
-    to_p: &mut u8,
-    to_n: &mut u8,
-    to_z: &mut u8,
-)
-    ensures { λ _. ⌜ (now («to_dims» .exit) ∷ now («to_kind» .exit) ∷ now («to_p» .exit) ∷ now («to_n» .exit) ∷ now («to_z» .exit) ∷ []) ≡ shapeBytes shape ⌝ }
-{
-    *to_dims = shape.dims;
-    let flavor = shape.flavor;
-    report_flavor(flavor, to_kind, to_p, to_n, to_z);
-}
-
 // A value's shape.
-pub(crate) fn report(
-    answer: Answer,
-    to_dims: &mut u8,
-    to_kind: &mut u8,
-    to_p: &mut u8,
-    to_n: &mut u8,
-    to_z: &mut u8,
-) -> u8
-    ensures { λ r. ⌜ ReportsAnswer answer r (now («to_dims» .entry) ∷ now («to_kind» .entry) ∷ now («to_p» .entry) ∷ now («to_n» .entry) ∷ now («to_z» .entry) ∷ []) (now («to_dims» .exit) ∷ now («to_kind» .exit) ∷ now («to_p» .exit) ∷ now («to_n» .exit) ∷ now («to_z» .exit) ∷ []) ⌝ }
+pub(crate) fn report(answer: Answer, to_shape: &mut [u8; 6]) -> u8
+    ensures { λ r. ⌜ ReportsAnswer answer r (now («to_shape» .entry)) (now («to_shape» .exit)) ⌝ }
 {
     let number = answer.number;
     if number != DONE {
         return number;
     }
-    report_shape(answer.shape, to_dims, to_kind, to_p, to_n, to_z);
+    *to_shape = shape_bytes(answer.shape);
     number
 }
 
 // Two values' shapes.
 pub(crate) fn report_both(
     answers: Answers,
-    to_dims: &mut u8,
-    to_kind: &mut u8,
-    to_p: &mut u8,
-    to_n: &mut u8,
-    to_z: &mut u8,
-    to_dims_right: &mut u8,
-    to_kind_right: &mut u8,
-    to_p_right: &mut u8,
-    to_n_right: &mut u8,
-    to_z_right: &mut u8,
+    to_shape: &mut [u8; 6],
+    to_shape_right: &mut [u8; 6],
 ) -> u8
-    ensures { λ r. ⌜ ReportsAnswers answers r (now («to_dims» .entry) ∷ now («to_kind» .entry) ∷ now («to_p» .entry) ∷ now («to_n» .entry) ∷ now («to_z» .entry) ∷ now («to_dims_right» .entry) ∷ now («to_kind_right» .entry) ∷ now («to_p_right» .entry) ∷ now («to_n_right» .entry) ∷ now («to_z_right» .entry) ∷ []) (now («to_dims» .exit) ∷ now («to_kind» .exit) ∷ now («to_p» .exit) ∷ now («to_n» .exit) ∷ now («to_z» .exit) ∷ now («to_dims_right» .exit) ∷ now («to_kind_right» .exit) ∷ now («to_p_right» .exit) ∷ now («to_n_right» .exit) ∷ now («to_z_right» .exit) ∷ []) ⌝ }
+    ensures { λ r. ⌜ ReportsAnswers answers r (now («to_shape» .entry), now («to_shape_right» .entry)) (now («to_shape» .exit), now («to_shape_right» .exit)) ⌝ }
 {
     let number = answers.number;
     if number != DONE {
         return number;
     }
-    report_shape(answers.left, to_dims, to_kind, to_p, to_n, to_z);
-    report_shape(
-        answers.right,
-        to_dims_right,
-        to_kind_right,
-        to_p_right,
-        to_n_right,
-        to_z_right,
-    );
+    *to_shape = shape_bytes(answers.left);
+    *to_shape_right = shape_bytes(answers.right);
     number
 }
 
@@ -151,42 +76,28 @@ pub(crate) fn report_number(answer: Real, to_value: &mut f64) -> u8
     number
 }
 
-// A flavor that was read.
-pub(crate) fn report_read(
-    answer: Read,
-    to_kind: &mut u8,
-    to_p: &mut u8,
-    to_n: &mut u8,
-    to_z: &mut u8,
-) -> u8
-    ensures { λ r. ⌜ ReportsFlavor answer r (now («to_kind» .entry) ∷ now («to_p» .entry) ∷ now («to_n» .entry) ∷ now («to_z» .entry) ∷ []) (now («to_kind» .exit) ∷ now («to_p» .exit) ∷ now («to_n» .exit) ∷ now («to_z» .exit) ∷ []) ⌝ }
+// A flavor that was read, as the shape of 0 dimensions.
+pub(crate) fn report_read(answer: Read, to_flavor: &mut [u8; 6]) -> u8
+    ensures { λ r. ⌜ ReportsFlavor answer r (now («to_flavor» .entry)) (now («to_flavor» .exit)) ⌝ }
 {
     let number = answer.number;
     if number != DONE {
         return number;
     }
     let flavor = answer.flavor;
-    report_flavor(flavor, to_kind, to_p, to_n, to_z);
+    *to_flavor = shape_bytes(shape_of(0, flavor));
     number
 }
 
 // A product's shape, and the number of its pairs.
-pub(crate) fn report_product(
-    product: Product,
-    to_dims: &mut u8,
-    to_kind: &mut u8,
-    to_p: &mut u8,
-    to_n: &mut u8,
-    to_z: &mut u8,
-    to_pairs: &mut u32,
-) -> u8
-    ensures { λ r. ⌜ ReportsPairs product r (now («to_dims» .entry) ∷ now («to_kind» .entry) ∷ now («to_p» .entry) ∷ now («to_n» .entry) ∷ now («to_z» .entry) ∷ now («to_pairs» .entry) ∷ []) (now («to_dims» .exit) ∷ now («to_kind» .exit) ∷ now («to_p» .exit) ∷ now («to_n» .exit) ∷ now («to_z» .exit) ∷ now («to_pairs» .exit) ∷ []) ⌝ }
+pub(crate) fn report_product(product: Product, to_shape: &mut [u8; 6], to_pairs: &mut u32) -> u8
+    ensures { λ r. ⌜ ReportsPairs product r (now («to_shape» .entry), now («to_pairs» .entry)) (now («to_shape» .exit), now («to_pairs» .exit)) ⌝ }
 {
     let number = product.number;
     if number != DONE {
         return number;
     }
-    report_shape(product.shape, to_dims, to_kind, to_p, to_n, to_z);
+    *to_shape = shape_bytes(product.shape);
     *to_pairs = product.pairs;
     number
 }
@@ -249,43 +160,27 @@ pub(crate) fn report_test(answer: Tested, to_test: &mut u8, to_re: &mut f64, to_
 }
 
 // The shape of a value whose scalar was taken, and the scalar.
-pub(crate) fn report_taken(
-    taken: Taken,
-    to_dims: &mut u8,
-    to_kind: &mut u8,
-    to_p: &mut u8,
-    to_n: &mut u8,
-    to_z: &mut u8,
-    to_value: &mut f64,
-) -> u8
-    ensures { λ r. ⌜ ReportsScalar taken r ((now («to_dims» .entry) ∷ now («to_kind» .entry) ∷ now («to_p» .entry) ∷ now («to_n» .entry) ∷ now («to_z» .entry) ∷ []), now («to_value» .entry)) ((now («to_dims» .exit) ∷ now («to_kind» .exit) ∷ now («to_p» .exit) ∷ now («to_n» .exit) ∷ now («to_z» .exit) ∷ []), now («to_value» .exit)) ⌝ }
+pub(crate) fn report_taken(taken: Taken, to_shape: &mut [u8; 6], to_value: &mut f64) -> u8
+    ensures { λ r. ⌜ ReportsScalar taken r (now («to_shape» .entry), now («to_value» .entry)) (now («to_shape» .exit), now («to_value» .exit)) ⌝ }
 {
     let number = taken.number;
     if number != DONE {
         return number;
     }
-    report_shape(taken.shape, to_dims, to_kind, to_p, to_n, to_z);
+    *to_shape = shape_bytes(taken.shape);
     *to_value = taken.value;
     number
 }
 
 // The shape of a value of a sheet, and where its patterns start.
-pub(crate) fn report_place(
-    placed: Placed,
-    to_dims: &mut u8,
-    to_kind: &mut u8,
-    to_p: &mut u8,
-    to_n: &mut u8,
-    to_z: &mut u8,
-    to_start: &mut usize,
-) -> u8
-    ensures { λ r. ⌜ ReportsPlace placed r (now («to_dims» .entry) ∷ now («to_kind» .entry) ∷ now («to_p» .entry) ∷ now («to_n» .entry) ∷ now («to_z» .entry) ∷ now («to_start» .entry) ∷ []) (now («to_dims» .exit) ∷ now («to_kind» .exit) ∷ now («to_p» .exit) ∷ now («to_n» .exit) ∷ now («to_z» .exit) ∷ now («to_start» .exit) ∷ []) ⌝ }
+pub(crate) fn report_place(placed: Placed, to_shape: &mut [u8; 6], to_start: &mut usize) -> u8
+    ensures { λ r. ⌜ ReportsPlace placed r (now («to_shape» .entry), now («to_start» .entry)) (now («to_shape» .exit), now («to_start» .exit)) ⌝ }
 {
     let number = placed.number;
     if number != DONE {
         return number;
     }
-    report_shape(placed.shape, to_dims, to_kind, to_p, to_n, to_z);
+    *to_shape = shape_bytes(placed.shape);
     *to_start = placed.start;
     number
 }

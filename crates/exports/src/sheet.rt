@@ -1,35 +1,41 @@
-// The rig sheet. A list of shapes is a slice of bytes, five to a shape.
+// The rig sheet. A list of shapes is a slice of bytes, six to a shape.
 use super::reports::report_count;
 use super::reports::report_place;
 use super::reports::report_sheet;
 use masks::outcome::DONE;
+use masks::outcome::MALFORMED;
 use masks::outcome::MAX_DIMS;
+use masks::outcome::NO_ROOM;
 use masks::outcome::TOO_MANY_DIMS;
 use masks::outcome::WRONG_COUNT;
 use sheets::patterns::numbers_of;
 use sheets::patterns::patterns_of;
 use sheets::read::read;
-use sheets::read::shapes_from;
+use sheets::read::shape_count;
+use sheets::shapes::shapes_from;
+use sheets::shapes::shapes_to;
 use sheets::values::value_at;
 use sheets::write::write;
 ghost use mathlib.Core.Path.{_≡_};
+ghost use mathlib.Core.Bool.{true};
 ghost use mathlib.Core.List.{[], _∷_};
 ghost use lib.ListN.{length};
 ghost use Rattle.masks.specs.Outcome.{refusal};
 ghost use Rattle.sheets.specs.Format.{anyAboveNine, aboveNine};
-ghost use Rattle.sheets.specs.Read.{saidShapes, readSheet};
+ghost use Rattle.sheets.specs.Read.{malformed};
+ghost use Rattle.sheets.specs.Shapes.{saidShapes};
 ghost use Rattle.sheets.specs.Patterns.{numbersOf, patternsOf};
 ghost use Rattle.exports.specs.Reports.{ReportsPlace, ReportsList};
-ghost use Rattle.exports.specs.Sheet.{notFives, writeFrom, valueFrom, ReportsSheet};
+ghost use Rattle.exports.specs.Sheet.{notSixes, readFrom, writeFrom, valueFrom, ReportsSheet};
 
 // Whether one of the shapes that bytes say has more than nine dimensions.
 fn any_above_nine(bytes: &[u8]) -> bool
-    ensures { λ r. ⌜ r ≡ anyAboveNine (saidShapes (now (bytes .entry))) ⌝ }
+    ensures { λ r. ⌜ r ≡ anyAboveNine (saidShapes 6 (now (bytes .entry))) ⌝ }
 {
-    let count = bytes.len() / 5;
+    let count = bytes.len() / 6;
     let mut i: usize = 0;
     while i < count {
-        if MAX_DIMS < bytes[5 * i] {
+        if MAX_DIMS < bytes[6 * i] {
             return true;
         }
         i += 1;
@@ -39,33 +45,50 @@ fn any_above_nine(bytes: &[u8]) -> bool
 
 // The number that a list of shapes is refused with by its bytes alone, or 0.
 fn list_refusal(bytes: &[u8]) -> u8
-    ensures { λ r. ⌜ r ≡ refusal (aboveNine (saidShapes (now (bytes .entry))) ∷ notFives (now (bytes .entry)) ∷ []) ⌝ }
+    ensures { λ r. ⌜ r ≡ refusal (aboveNine (saidShapes 6 (now (bytes .entry))) ∷ notSixes (now (bytes .entry)) ∷ []) ⌝ }
 {
     if any_above_nine(bytes) {
         return TOO_MANY_DIMS;
     }
-    if bytes.len() % 5 != 0 {
+    if bytes.len() % 6 != 0 {
         return WRONG_COUNT;
     }
     DONE
 }
 
-// The sheet that bytes are: its patterns, from the front of the output, and how many shapes and patterns there are. Its shapes stand in
-// the bytes, from byte 2 on.
+// The number that a sheet is refused with where its list of shapes has no room: 9, or else 3.
+fn short_refusal(bytes: &[u8]) -> u8
+    ensures { λ r. ⌜ r ≡ refusal (malformed (now (bytes .entry)) ∷ record { fails = true; number = 3 } ∷ []) ⌝ }
+{
+    let mut one: [u64; 1] = [0];
+    let tried = read(bytes, &mut one);
+    if tried.number == MALFORMED {
+        return MALFORMED;
+    }
+    NO_ROOM
+}
+
+// The sheet that bytes are: its shapes, six bytes each, and its patterns, each from the front of an output, and how many shapes and patterns
+// there are.
 #[no_mangle]
 pub extern "C" fn thresholm_read(
     bytes: &[u8],
+    shapes: &mut [u8],
     out: &mut [u64],
     to_shapes: &mut usize,
     to_count: &mut usize,
 ) -> u8
-    ensures { λ r. ⌜ ReportsSheet (readSheet (now (bytes .entry)) (length (now (out .entry)))) (now (bytes .entry)) r (now (out .entry)) (now (out .exit)) (now («to_shapes» .entry) ∷ now («to_count» .entry) ∷ []) (now («to_shapes» .exit) ∷ now («to_count» .exit) ∷ []) ⌝ }
+    ensures { λ r. ⌜ ReportsSheet (readFrom (now (bytes .entry)) (length (now (shapes .entry))) (length (now (out .entry)))) r (now (shapes .entry)) (now (shapes .exit)) (now (out .entry)) (now (out .exit)) (now («to_shapes» .entry) ∷ now («to_count» .entry) ∷ []) (now («to_shapes» .exit) ∷ now («to_count» .exit) ∷ []) ⌝ }
 {
+    if shapes.len() / 6 < shape_count(bytes) {
+        return short_refusal(bytes);
+    }
     let sheet = read(bytes, out);
+    shapes_to(sheet.shapes, shapes);
     report_sheet(sheet, to_shapes, to_count)
 }
 
-// The bytes of a sheet, from the front of the output, and how many there are; its shapes have five bytes each.
+// The bytes of a sheet, from the front of the output, and how many there are.
 #[no_mangle]
 pub extern "C" fn thresholm_write(
     shapes: &[u8],
@@ -88,21 +111,17 @@ pub extern "C" fn thresholm_write(
 pub extern "C" fn thresholm_value_at(
     shapes: &[u8],
     index: usize,
-    to_dims: &mut u8,
-    to_kind: &mut u8,
-    to_p: &mut u8,
-    to_n: &mut u8,
-    to_z: &mut u8,
+    to_shape: &mut [u8; 6],
     to_start: &mut usize,
 ) -> u8
-    ensures { λ r. ⌜ ReportsPlace (valueFrom (now (shapes .entry)) index) r (now («to_dims» .entry) ∷ now («to_kind» .entry) ∷ now («to_p» .entry) ∷ now («to_n» .entry) ∷ now («to_z» .entry) ∷ now («to_start» .entry) ∷ []) (now («to_dims» .exit) ∷ now («to_kind» .exit) ∷ now («to_p» .exit) ∷ now («to_n» .exit) ∷ now («to_z» .exit) ∷ now («to_start» .exit) ∷ []) ⌝ }
+    ensures { λ r. ⌜ ReportsPlace (valueFrom (now (shapes .entry)) index) r (now («to_shape» .entry), now («to_start» .entry)) (now («to_shape» .exit), now («to_start» .exit)) ⌝ }
 {
     let number = list_refusal(shapes);
     if number != DONE {
         return number;
     }
     let placed = value_at(shapes_from(shapes), index);
-    report_place(placed, to_dims, to_kind, to_p, to_n, to_z, to_start)
+    report_place(placed, to_shape, to_start)
 }
 
 // The numbers of bit patterns, and how many there are.

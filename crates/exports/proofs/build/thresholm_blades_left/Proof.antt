@@ -2,14 +2,14 @@
 use mathlib.Core.Path.{ap}
 use borrow.Author.Needs.{needs}
 use lib.ListN.{length}
-use Rattle.masks.specs.declared.flavor.Flavor.{Flavor}
+use Rattle.masks.specs.declared.shape.Shape.{Shape}
 use Rattle.masks.specs.Build.{bladesOfSide}
 use Rattle.exports.proofs.ReportsLaws.{value-reported}
 use Rattle.exports.proofs.build.thresholm_blades_left.Statement.{statement}
 use Rattle.exports.proofs.build.thresholm_blades_left.Tie as tie
 
-flavor-from-requires : tie.Need-flavor-from-requires
-flavor-from-requires c κs = search needs
+shape-from-requires : tie.Need-shape-from-requires
+shape-from-requires c κs = search needs
 
 blades-left-requires : tie.Need-blades-left-requires
 blades-left-requires c κs = search needs
@@ -22,10 +22,9 @@ same-length c = search needs
 
 returns : tie.Need-returns
 returns c =
-    let given = c .before .before .before .before .before .before .before .before .before .before .before .before .before .args in
-    value-reported (ap (λ (f : Flavor). bladesOfSide 0 (given .dims) (given .v .now) f (length (given .out .now))) (c .before .before .before .before .before .before .before .before .before .before .flavor-from .ensures)) (c .before .before .before .before .before .before .before .before .blades-left .ensures) (c .report .ensures)
+    let given = c .before .before .before .before .before .before .before .before .before .args in
+    value-reported (ap (λ (s : Shape). bladesOfSide 0 (s .dims) (given .v .now) (s .flavor) (length (given .out .now))) (c .before .before .before .before .before .before .shape-from .ensures)) (c .before .before .before .before .blades-left .ensures) (c .report .ensures)
 
 pub thresholm-blades-left-spec : {M : Type 1} → statement M
 thresholm-blades-left-spec =
-    tie.close
-    (tie.spec flavor-from-requires blades-left-requires report-requires same-length returns)
+    tie.close (tie.spec shape-from-requires blades-left-requires report-requires same-length returns)

@@ -8,8 +8,8 @@ use Rattle.exports.proofs.ReportsLaws.{value-reported}
 use Rattle.exports.proofs.build.thresholm_n_1_blades.Statement.{statement}
 use Rattle.exports.proofs.build.thresholm_n_1_blades.Tie as tie
 
-flavor-from-requires : tie.Need-flavor-from-requires
-flavor-from-requires c κs = search needs
+flavor-in-requires : tie.Need-flavor-in-requires
+flavor-in-requires c κs = search needs
 
 n-1-blades-requires : tie.Need-n-1-blades-requires
 n-1-blades-requires c κs = search needs
@@ -22,9 +22,9 @@ same-length c = search needs
 
 returns : tie.Need-returns
 returns c =
-    let given = c .before .before .before .before .before .before .before .before .before .before .before .before .before .args in
-    value-reported (ap (λ (f : Flavor). n1Blades (given .v .now) f (length (given .out .now))) (c .before .before .before .before .before .before .before .before .before .before .flavor-from .ensures)) (c .before .before .before .before .before .before .before .before .n-1-blades .ensures) (c .report .ensures)
+    let given = c .before .before .before .before .before .before .before .before .before .args in
+    value-reported (ap (λ (f : Flavor). n1Blades (given .v .now) f (length (given .out .now))) (c .before .before .before .before .before .before .flavor-in .ensures)) (c .before .before .before .before .n-1-blades .ensures) (c .report .ensures)
 
 pub thresholm-n-1-blades-spec : {M : Type 1} → statement M
 thresholm-n-1-blades-spec =
-    tie.close (tie.spec flavor-from-requires n-1-blades-requires report-requires same-length returns)
+    tie.close (tie.spec flavor-in-requires n-1-blades-requires report-requires same-length returns)

@@ -6,15 +6,15 @@ use Rattle.masks.specs.Flavor.{addedDims}
 use Rattle.exports.proofs.flavors.thresholm_added_dims.Statement.{statement}
 use Rattle.exports.proofs.flavors.thresholm_added_dims.Tie as tie
 
-flavor-from-requires : tie.Need-flavor-from-requires
-flavor-from-requires c κs = search needs
+flavor-in-requires : tie.Need-flavor-in-requires
+flavor-in-requires c κs = search needs
 
 added-dims-requires : tie.Need-added-dims-requires
 added-dims-requires c κs = search needs
 
 returns : tie.Need-returns
 returns c =
-    c .added-dims .ensures ∙ (ap (λ (f : Flavor). addedDims f) (c .before .flavor-from .ensures))
+    c .added-dims .ensures ∙ (ap (λ (f : Flavor). addedDims f) (c .before .flavor-in .ensures))
 
 pub thresholm-added-dims-spec : {M : Type 1} → statement M
-thresholm-added-dims-spec = tie.close (tie.spec flavor-from-requires added-dims-requires returns)
+thresholm-added-dims-spec = tie.close (tie.spec flavor-in-requires added-dims-requires returns)

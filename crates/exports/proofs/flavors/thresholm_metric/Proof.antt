@@ -11,8 +11,8 @@ use Rattle.masks.specs.Flavor.{metricOf, metricValue}
 use Rattle.exports.proofs.flavors.thresholm_metric.Statement.{statement}
 use Rattle.exports.proofs.flavors.thresholm_metric.Tie as tie
 
-flavor-from-requires : tie.Need-flavor-from-requires
-flavor-from-requires c κs = search needs
+flavor-in-requires : tie.Need-flavor-in-requires
+flavor-in-requires c κs = search needs
 
 metric-requires : tie.Need-metric-requires
 metric-requires c κs = search needs
@@ -30,8 +30,8 @@ read-back Plus = refl
 returns : tie.Need-returns
 returns c =
     let given = c .before .before .before .args in
-    ap (λ (x : ℤ). toZ w8 (ofZ w8 x)) (c .metric-number .ensures) ∙ read-back (c .before .metric .result) ∙ c .before .metric .ensures ∙ ap (λ (f : Flavor). metricOf f (given .index)) (c .before .before .flavor-from .ensures)
+    ap (λ (x : ℤ). toZ w8 (ofZ w8 x)) (c .metric-number .ensures) ∙ read-back (c .before .metric .result) ∙ c .before .metric .ensures ∙ ap (λ (f : Flavor). metricOf f (given .index)) (c .before .before .flavor-in .ensures)
 
 pub thresholm-metric-spec : {M : Type 1} → statement M
 thresholm-metric-spec =
-    tie.close (tie.spec flavor-from-requires metric-requires metric-number-requires returns)
+    tie.close (tie.spec flavor-in-requires metric-requires metric-number-requires returns)

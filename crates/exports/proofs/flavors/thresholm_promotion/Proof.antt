@@ -6,19 +6,19 @@ use Rattle.masks.specs.Shape.{promotes}
 use Rattle.exports.proofs.flavors.thresholm_promotion.Statement.{statement}
 use Rattle.exports.proofs.flavors.thresholm_promotion.Tie as tie
 
-flavor-from-requires : tie.Need-flavor-from-requires
-flavor-from-requires c κs = search needs
+flavor-in-requires : tie.Need-flavor-in-requires
+flavor-in-requires c κs = search needs
 
-flavor-from-requires-2 : tie.Need-flavor-from-requires-2
-flavor-from-requires-2 c κs = search needs
+flavor-in-requires-2 : tie.Need-flavor-in-requires-2
+flavor-in-requires-2 c κs = search needs
 
 promotion-requires : tie.Need-promotion-requires
 promotion-requires c κs = search needs
 
 returns : tie.Need-returns
 returns c =
-    c .promotion .ensures ∙ (ap₂ (λ (f : Flavor) (g : Flavor). promotes f g) (c .before .before .flavor-from .ensures) (c .before .flavor-from2 .ensures))
+    c .promotion .ensures ∙ (ap₂ (λ (f : Flavor) (g : Flavor). promotes f g) (c .before .before .flavor-in .ensures) (c .before .flavor-in2 .ensures))
 
 pub thresholm-promotion-spec : {M : Type 1} → statement M
 thresholm-promotion-spec =
-    tie.close (tie.spec flavor-from-requires flavor-from-requires-2 promotion-requires returns)
+    tie.close (tie.spec flavor-in-requires flavor-in-requires-2 promotion-requires returns)

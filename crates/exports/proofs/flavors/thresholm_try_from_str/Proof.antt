@@ -13,7 +13,7 @@ report-read-requires c κs = search needs
 
 returns : tie.Need-returns
 returns c =
-    same-reported ReportsFlavor (c .before .before .before .before .before .try-from-str .ensures) (c .report-read .ensures)
+    same-reported ReportsFlavor (c .before .before .try-from-str .ensures) (c .report-read .ensures)
 
 pub thresholm-try-from-str-spec : {M : Type 1} → statement M
 thresholm-try-from-str-spec = tie.close (tie.spec try-from-str-requires report-read-requires returns)

@@ -8,8 +8,8 @@ use Rattle.exports.proofs.ReportsLaws.{list-reported}
 use Rattle.exports.proofs.flavors.thresholm_write_to.Statement.{statement}
 use Rattle.exports.proofs.flavors.thresholm_write_to.Tie as tie
 
-flavor-from-requires : tie.Need-flavor-from-requires
-flavor-from-requires c κs = search needs
+flavor-in-requires : tie.Need-flavor-in-requires
+flavor-in-requires c κs = search needs
 
 write-to-requires : tie.Need-write-to-requires
 write-to-requires c κs = search needs
@@ -23,9 +23,9 @@ same-length c = search needs
 returns : tie.Need-returns
 returns c =
     let given = c .before .before .before .before .before .before .before .before .args in
-    list-reported (ap (λ (f : Flavor). writeFlavor f (length (given .out .now))) (c .before .before .before .before .before .before .flavor-from .ensures)) (c .before .before .before .before .write-to .ensures) (c .report-count .ensures)
+    list-reported (ap (λ (f : Flavor). writeFlavor f (length (given .out .now))) (c .before .before .before .before .before .before .flavor-in .ensures)) (c .before .before .before .before .write-to .ensures) (c .report-count .ensures)
 
 pub thresholm-write-to-spec : {M : Type 1} → statement M
 thresholm-write-to-spec =
     tie.close
-    (tie.spec flavor-from-requires write-to-requires report-count-requires same-length returns)
+    (tie.spec flavor-in-requires write-to-requires report-count-requires same-length returns)

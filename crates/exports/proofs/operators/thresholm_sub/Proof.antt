@@ -26,8 +26,8 @@ same-length c = search needs
 
 returns : tie.Need-returns
 returns c =
-    let given = c .before .before .before .before .before .before .before .before .before .before .before .before .before .before .before .args in
-    value-reported (ap₂ (λ (s : Shape) (t : Shape). addition Minus s t (given .a .now) (given .b .now) (length (given .out .now))) (c .before .before .before .before .before .before .before .before .before .before .before .shape-from .ensures) (c .before .before .before .before .before .before .before .before .before .before .shape-from2 .ensures)) (c .before .before .before .before .before .before .before .before .sub .ensures) (c .report .ensures)
+    let given = c .before .before .before .before .before .before .before .before .before .before .before .args in
+    value-reported (ap₂ (λ (s : Shape) (t : Shape). addition Minus s t (given .a .now) (given .b .now) (length (given .out .now))) (c .before .before .before .before .before .before .before .shape-from .ensures) (c .before .before .before .before .before .before .shape-from2 .ensures)) (c .before .before .before .before .sub .ensures) (c .report .ensures)
 
 pub thresholm-sub-spec : {M : Type 1} → statement M
 thresholm-sub-spec =

@@ -1,4 +1,4 @@
--- `exports::report::report` meets its contract. Assumes nothing.
+-- `exports::reports::report` meets its contract. Assumes nothing.
 use borrow.Author.Needs.{needs}
 use Rattle.exports.proofs.ReportsLaws.{kept-reported, done-reported}
 use Rattle.exports.proofs.reports.report.Statement.{statement}
@@ -8,12 +8,12 @@ returns : tie.Need-returns
 returns c =
     kept-reported (c .before .args .answer .number) (c .if1 .taken)
 
-report-shape-requires : tie.Need-report-shape-requires
-report-shape-requires c κs = search needs
+shape-bytes-requires : tie.Need-shape-bytes-requires
+shape-bytes-requires c κs = search needs
 
 returns-2 : tie.Need-returns-2
 returns-2 c =
-    done-reported (c .before .before .before .before .before .before .before .args .answer .number) (c .before .before .before .before .before .before .if1 .left) (c .report-shape .ensures)
+    done-reported (c .before .before .args .answer .number) (c .before .if1 .left) (c .shape-bytes .ensures)
 
 pub report-spec : {M : Type 1} → statement M
-report-spec = tie.close (tie.spec returns report-shape-requires returns-2)
+report-spec = tie.close (tie.spec returns shape-bytes-requires returns-2)

@@ -28,8 +28,8 @@ same-length-2 c = search needs
 
 returns : tie.Need-returns
 returns c =
-    let given = c .before .before .before .before .before .before .before .before .before .before .before .before .before .before .before .before .before .before .before .before .before .before .before .before .args in
-    pair-reported (ap₂ (λ (s : Shape) (t : Shape). conform s t (given .a .now) (given .b .now) (length (given .out .now)) (length (given .out-right .now))) (c .before .before .before .before .before .before .before .before .before .before .before .before .before .before .before .before .before .before .before .shape-from .ensures) (c .before .before .before .before .before .before .before .before .before .before .before .before .before .before .before .before .before .before .shape-from2 .ensures)) (c .before .before .before .before .before .before .before .before .before .before .before .before .before .before .before .conform .ensures) (c .report-both .ensures)
+    let given = c .before .before .before .before .before .before .before .before .before .before .before .before .before .before .before .before .args in
+    pair-reported (ap₂ (λ (s : Shape) (t : Shape). conform s t (given .a .now) (given .b .now) (length (given .out .now)) (length (given .out-right .now))) (c .before .before .before .before .before .before .before .before .before .before .before .shape-from .ensures) (c .before .before .before .before .before .before .before .before .before .before .shape-from2 .ensures)) (c .before .before .before .before .before .before .before .conform .ensures) (c .report-both .ensures)
 
 pub thresholm-conform-spec : {M : Type 1} → statement M
 thresholm-conform-spec =

@@ -22,8 +22,8 @@ same-length c = search needs
 
 returns : tie.Need-returns
 returns c =
-    let given = c .before .before .before .before .before .before .before .before .before .before .before .before .before .args in
-    value-reported (ap (λ (s : Shape). setDims s (given .new-dims) (given .a .now) (length (given .out .now))) (c .before .before .before .before .before .before .before .before .before .before .shape-from .ensures)) (c .before .before .before .before .before .before .before .before .set-dims .ensures) (c .report .ensures)
+    let given = c .before .before .before .before .before .before .before .before .before .args in
+    value-reported (ap (λ (s : Shape). setDims s (given .new-dims) (given .a .now) (length (given .out .now))) (c .before .before .before .before .before .before .shape-from .ensures)) (c .before .before .before .before .set-dims .ensures) (c .report .ensures)
 
 pub thresholm-set-dims-spec : {M : Type 1} → statement M
 thresholm-set-dims-spec =

@@ -7,15 +7,15 @@ use native.Mathlib.Omega.{arith}
 use lib.ListN.{length, getD, take}
 use lib.Seq.{take-all}
 use Rattle.sheets.specs.Format.{anyAboveNine}
-use Rattle.sheets.specs.Read.{saidShapes}
+use Rattle.sheets.specs.Shapes.{saidShapes}
 use Rattle.sheets.proofs.FormatLaws.{above-next, above-at}
-use Rattle.sheets.proofs.ReadLaws.{saidShapes-length}
+use Rattle.sheets.proofs.ShapesLaws.{saidShapes-length}
 use Rattle.exports.proofs.SheetLaws.{dims-said}
 use Rattle.exports.proofs.sheet.any_above_nine.Statement.{statement}
 use Rattle.exports.proofs.sheet.any_above_nine.Tie as tie
 
 abbrev Inv-loop : tie.InvT-loop
-Inv-loop bytes count i₀ i = (i ≤ count) × (anyAboveNine (take i (saidShapes bytes)) ≡ false)
+Inv-loop bytes count i₀ i = (i ≤ count) × (anyAboveNine (take i (saidShapes 6 bytes)) ≡ false)
 
 abbrev μ-loop : tie.MeasureT-loop
 μ-loop bytes count i₀ i = count - i
@@ -28,19 +28,19 @@ returns : tie.Need-returns Inv-loop μ-loop
 returns c =
     let b = c .before .before .before .before .args .bytes .now in
     let l = c .before .before .before .loop in
-    sym (above-at (l .i) (saidShapes b) (omega (arith, saidShapes-length b)) (rw (dims-said b (l .i) (omega arith)) (c .if1 .taken)))
+    sym (above-at (l .i) (saidShapes 6 b) (omega (arith, saidShapes-length 6 b)) (rw (dims-said b (l .i) (omega arith)) (c .if1 .taken)))
 
 loop-again : tie.Need-loop-again Inv-loop μ-loop
 loop-again c =
     let b = c .before .before .before .before .args .bytes .now in
     let l = c .before .before .before .loop in
-    (omega arith, above-next (saidShapes b) (l .i) (omega (arith, saidShapes-length b)) (rw (dims-said b (l .i) (omega arith)) (c .if1 .left)) (l .inv .1))
+    (omega arith, above-next (saidShapes 6 b) (l .i) (omega (arith, saidShapes-length 6 b)) (rw (dims-said b (l .i) (omega arith)) (c .if1 .left)) (l .inv .1))
 
 returns-2 : tie.Need-returns-2 Inv-loop μ-loop
 returns-2 c =
     let b = c .before .before .args .bytes .now in
     let l = c .before .loop in
-    sym (sym (ap anyAboveNine (take-all (l .i) (saidShapes b) (omega (arith, saidShapes-length b)))) ∙ l .inv .1)
+    sym (sym (ap anyAboveNine (take-all (l .i) (saidShapes 6 b) (omega (arith, saidShapes-length 6 b)))) ∙ l .inv .1)
 
 add-i : tie.Need-add-i Inv-loop μ-loop
 add-i c = omega arith

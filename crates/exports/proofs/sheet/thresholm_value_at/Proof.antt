@@ -29,7 +29,7 @@ report-place-requires c κs = search needs
 
 returns-2 : tie.Need-returns-2
 returns-2 c =
-    let v = c .before .before .before .before .before .before .before in
+    let v = c .before .before .before in
     let s = v .before in
     let i = s .before in
     let l = i .before in

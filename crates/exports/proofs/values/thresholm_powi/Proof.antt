@@ -25,9 +25,9 @@ same-length c = search needs
 
 returns : tie.Need-returns
 returns c =
-    let start = c .before .before .before .before .before .before .before .before .before .before .before .before .before in
+    let start = c .before .before .before .before .before .before .before .before .before in
     let given = start .args in
-    value-reported (ap₂ (λ (s : Shape) (y : ℤ). power s y (given .a .now) (length (given .out .now))) (c .before .before .before .before .before .before .before .before .before .before .shape-from .ensures) (toZ-ofZ w32 (given .exponent) (start .fits .exponent))) (c .before .before .before .before .before .before .before .before .powi .ensures) (c .report .ensures)
+    value-reported (ap₂ (λ (s : Shape) (y : ℤ). power s y (given .a .now) (length (given .out .now))) (c .before .before .before .before .before .before .shape-from .ensures) (toZ-ofZ w32 (given .exponent) (start .fits .exponent))) (c .before .before .before .before .powi .ensures) (c .report .ensures)
 
 pub thresholm-powi-spec : {M : Type 1} → statement M
 thresholm-powi-spec =

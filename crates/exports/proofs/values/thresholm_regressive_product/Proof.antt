@@ -25,8 +25,8 @@ same-length c = search needs
 
 returns : tie.Need-returns
 returns c =
-    let given = c .before .before .before .before .before .before .before .before .before .before .before .before .before .before .before .args in
-    value-reported (ap₂ (λ (s : Shape) (t : Shape). regressiveProduct s t (given .a .now) (given .b .now) (length (given .out .now))) (c .before .before .before .before .before .before .before .before .before .before .before .shape-from .ensures) (c .before .before .before .before .before .before .before .before .before .before .shape-from2 .ensures)) (c .before .before .before .before .before .before .before .before .regressive-product .ensures) (c .report .ensures)
+    let given = c .before .before .before .before .before .before .before .before .before .before .before .args in
+    value-reported (ap₂ (λ (s : Shape) (t : Shape). regressiveProduct s t (given .a .now) (given .b .now) (length (given .out .now))) (c .before .before .before .before .before .before .before .shape-from .ensures) (c .before .before .before .before .before .before .shape-from2 .ensures)) (c .before .before .before .before .regressive-product .ensures) (c .report .ensures)
 
 pub thresholm-regressive-product-spec : {M : Type 1} → statement M
 thresholm-regressive-product-spec =

@@ -22,8 +22,8 @@ same-length c = search needs
 
 returns : tie.Need-returns
 returns c =
-    let given = c .before .before .before .before .before .before .before .before .before .before .before .before .before .args in
-    value-reported (ap (λ (s : Shape). reverse s (given .a .now) (length (given .out .now))) (c .before .before .before .before .before .before .before .before .before .before .shape-from .ensures)) (c .before .before .before .before .before .before .before .before .reverse .ensures) (c .report .ensures)
+    let given = c .before .before .before .before .before .before .before .before .before .args in
+    value-reported (ap (λ (s : Shape). reverse s (given .a .now) (length (given .out .now))) (c .before .before .before .before .before .before .shape-from .ensures)) (c .before .before .before .before .reverse .ensures) (c .report .ensures)
 
 pub thresholm-reverse-spec : {M : Type 1} → statement M
 thresholm-reverse-spec =

@@ -22,8 +22,8 @@ same-length c = search needs
 
 returns : tie.Need-returns
 returns c =
-    let given = c .before .before .before .before .before .before .before .before .before .before .before .before .before .before .args in
-    taken-reported (ap (λ (s : Shape). takeScalar s (given .a .now) (length (given .out .now))) (c .before .before .before .before .before .before .before .before .before .before .before .shape-from .ensures)) (c .before .before .before .before .before .before .before .before .before .take-scalar .ensures) (c .report-taken .ensures)
+    let given = c .before .before .before .before .before .before .before .before .before .before .args in
+    taken-reported (ap (λ (s : Shape). takeScalar s (given .a .now) (length (given .out .now))) (c .before .before .before .before .before .before .before .shape-from .ensures)) (c .before .before .before .before .before .take-scalar .ensures) (c .report-taken .ensures)
 
 pub thresholm-take-scalar-spec : {M : Type 1} → statement M
 thresholm-take-scalar-spec =
