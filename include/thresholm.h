@@ -1,30 +1,58 @@
+/* Generated from calls.txt by tools/make-calls: do not edit. */
 /*
  * Thresholm: the geometric algebra of a film scoring workstation, for C and C++.
  *
- * Values. A value is a shape and 2^dims doubles, its coefficients. A shape is five numbers: dims, the dimensions, 0
- * to 9, and a flavor. A flavor is four: kind (0 Vanilla, 1 Projective, any above 1 Cl), and the p, n and z of
- * Cl(p, n, z), which are ignored in the other two. Bit i of a mask means basis vector i. The coefficients stand in
- * the order of their masks: by number of one bits, then masks having bit 0 first, then bit 1, and so on. A
- * coefficient's index in that order is its place; at 3 dimensions place 5, mask 101, means e31. A value is scalar
- * where all places after 0 equal zero. It is planar where it is not scalar, is Vanilla of 2 dimensions, and places 1
- * and 2 equal zero.
+ * Values. A value is a shape and 2^dims doubles, its coefficients. Bit i of a mask means basis vector i. The
+ * coefficients stand in the order of their masks: by number of one bits, then masks having bit 0 first, then bit 1, and
+ * so on. A coefficient's index in that order is its place; at 3 dimensions place 5, mask 101, means e31. A value is
+ * scalar where all places after 0 equal zero. It is planar where it is not scalar, is Vanilla of 2 dimensions, and
+ * places 1 and 2 equal zero.
  *
- * Parameters. A slice is a pointer and the count of its elements, as a and a_len. An output is written from the
- * front; what is past the result stays as it was. A parameter to_... points to one number, in which the call reports
- * a part of the answer. A shape is reported as the rig sheet has it: kind 0, 1 or 2, and p, n, z zero unless kind is
- * 2. Of two values, _right marks the right one's.
+ * Shapes. A shape is six bytes: dims, the dimensions, 0 to 9; kind, that of the flavor; the p, n and z of Cl(p, n, z);
+ * and mark. thresholm_vanilla, thresholm_projective and thresholm_cl make them. What calls report is as these make it:
+ * kind 0, 1 or 2; p, n and z zero unless kind is 2; mark 0. Bytes that no call would report are read so: a kind above 1
+ * is Cl; p, n and z are ignored outside Cl; mark is not looked at. A flavor is passed as a shape whose dims are not
+ * looked at, and reported as one of 0 dimensions.
  *
- * Refusals. Every input is answered. Under each call stands what it is refused for, 'number: condition', in the order
- * of the tests: the number of the first condition that holds is returned, and 0 where none does. A refused call
- * writes nothing: no output and no number that a to_... points to. An output of THRESHOLM_MAX_BLADES numbers has room
- * for any value.
+ * Parameters. A slice is a pointer and the count of its elements, as a and a_len. An output is written from the front;
+ * what is past the result stays as it was. A parameter to_... points to one shape or number, in which the call reports
+ * a part of the answer. At a call, 'out: 2^dims' says how many elements the output needs; THRESHOLM_MAX_BLADES are
+ * enough for any value. There dims is that of shape, left.dims and right.dims are those of left and right, and result
+ * is the dimensions of the result. Where a call says nothing else:
+ *     shape       the value's shape
+ *     left        the left value's shape
+ *     right       the right value's shape
+ *     flavor      a flavor
+ *     new_flavor  the flavor that it is changed to
+ *     a           the coefficients of the value, of two those of the left one
+ *     b           the coefficients of the right value
+ *     v           the numbers that are given
+ *     dims        how many dimensions
+ *     grade       which grade
+ *     mask        which blade, by its mask
+ *     d           the dimensions that are read
+ *     x           the number that is put there
+ *     f           the number
+ *     patterns    bit patterns of coefficients
+ *     shapes      a list of shapes
+ *     out         the result's coefficients
+ *     to_shape    the result's shape
+ *     to_count    how many there are
+ *     to_start    where they start
+ *     to_value    the number
+ *     to_pairs    the number of contributing pairs
  *
- * Who owns what. The caller owns every buffer. The library keeps no pointer after a call, allocates nothing and has
- * no state; it works on the caller's stack, of which 512 KiB are enough. It may be called from several threads at
- * once, on separate outputs.
+ * Refusals. Every input is answered. At each call stands what it is refused for, 'number: condition', in the order
+ * of the tests: the number of the first condition that holds is returned, and 0 where none does. A refused call writes
+ * nothing: no output, and nothing that a to_... points to.
  *
- * Pointers. None may be null, also where the length is 0; each must be aligned, and valid for its length. Inputs may
- * overlap one another. An output, or a number that a to_... points to, may overlap nothing that the call is given.
+ * Who owns what. The caller owns every buffer. The library keeps no pointer after a call, allocates nothing and has no
+ * state; it works on the caller's stack, of which 512 KiB are enough. It may be called from several threads at once, on
+ * separate outputs.
+ *
+ * Pointers. The pointer of a slice may be null where its length is 0; no other may. Each must be aligned, and valid for
+ * its length. Inputs may overlap one another. An output, or what a to_... points to, may overlap nothing that the call
+ * is given.
  *
  * Numbers. Results are determined bit for bit where the floating point environment is the default one: round to
  * nearest, subnormal numbers kept (no flush to zero). The payload and sign of a NaN that arithmetic makes are the
@@ -36,8 +64,39 @@
 #include <stddef.h>
 #include <stdint.h>
 
+/* The version of this header: major x 10000 + minor x 100 + patch. thresholm_version() gives that of the library. */
+#define THRESHOLM_VERSION 200
+#define THRESHOLM_VERSION_MAJOR 0
+#define THRESHOLM_VERSION_MINOR 2
+#define THRESHOLM_VERSION_PATCH 0
+
+/* An output overlaps nothing else. */
+#ifdef __cplusplus
+#define THRESHOLM_RESTRICT __restrict
+#else
+#define THRESHOLM_RESTRICT restrict
+#endif
+
+/* What a call returns is looked at. */
+#if defined(__cplusplus) && __cplusplus >= 201703L
+#define THRESHOLM_NODISCARD [[nodiscard]]
+#elif defined(__STDC_VERSION__) && __STDC_VERSION__ >= 202311L
+#define THRESHOLM_NODISCARD [[nodiscard]]
+#elif defined(__GNUC__)
+#define THRESHOLM_NODISCARD __attribute__((warn_unused_result))
+#else
+#define THRESHOLM_NODISCARD
+#endif
+
+/* A function of this header, used or not. */
+#ifdef __GNUC__
+#define THRESHOLM_INLINE static inline __attribute__((unused))
+#else
+#define THRESHOLM_INLINE static inline
+#endif
+
 /* The numbers that calls return. */
-#define THRESHOLM_DONE 0
+#define THRESHOLM_DONE 0          /* done */
 #define THRESHOLM_TOO_MANY_DIMS 1 /* a given or resulting dimension is above 9 */
 #define THRESHOLM_WRONG_COUNT 2   /* an input's count is not the one the call needs, or no packing fits */
 #define THRESHOLM_NO_ROOM 3       /* the output is shorter than the result */
@@ -49,458 +108,499 @@
 #define THRESHOLM_MALFORMED 9     /* a rig sheet is malformed */
 
 /* The kinds of flavor. */
-#define THRESHOLM_VANILLA 0
-#define THRESHOLM_PROJECTIVE 1
-#define THRESHOLM_CL 2
+#define THRESHOLM_VANILLA 0    /* every basis vector squares to 1 */
+#define THRESHOLM_PROJECTIVE 1 /* basis vector 0 squares to 0, every other to 1 */
+#define THRESHOLM_CL 2         /* Cl(p, n, z): z basis vectors square to 0, the next n to -1, every other to 1 */
 
-/* The most dimensions and coefficients of a value, and the most shapes and coefficients of a sheet. */
-#define THRESHOLM_MAX_DIMS 9
-#define THRESHOLM_MAX_BLADES 512
-#define THRESHOLM_MAX_SHAPES 64
-#define THRESHOLM_MAX_COEFFICIENTS 4096
+/* How many there are at most. */
+#define THRESHOLM_MAX_DIMS 9            /* dimensions of a value */
+#define THRESHOLM_MAX_BLADES 512        /* coefficients of a value */
+#define THRESHOLM_MAX_SHAPES 64         /* values of a sheet */
+#define THRESHOLM_MAX_COEFFICIENTS 4096 /* coefficients of a sheet */
+#define THRESHOLM_MAX_SHAPE_BYTES 384   /* bytes of a list of shapes */
+#define THRESHOLM_MAX_SHEET_BYTES 33094 /* bytes of a sheet */
+#define THRESHOLM_MAX_FLAVOR_BYTES 14   /* bytes of a flavor's text */
+
+/* A shape: the dimensions, the flavor, and a byte that is written 0 and not looked at. */
+typedef struct thresholm_shape {
+    uint8_t dims, kind, p, n, z, mark;
+} thresholm_shape;
+
+/* It has six bytes, or this does not compile. */
+typedef char thresholm_shape_has_six_bytes[sizeof(thresholm_shape) == 6 ? 1 : -1];
+
+/* A shape of the flavor Vanilla. */
+THRESHOLM_INLINE thresholm_shape thresholm_vanilla(uint8_t dims) {
+    thresholm_shape shape = {dims, THRESHOLM_VANILLA, 0, 0, 0, 0};
+    return shape;
+}
+
+/* A shape of the flavor Projective. */
+THRESHOLM_INLINE thresholm_shape thresholm_projective(uint8_t dims) {
+    thresholm_shape shape = {dims, THRESHOLM_PROJECTIVE, 0, 0, 0, 0};
+    return shape;
+}
+
+/* A shape of the flavor Cl(p, n, z). */
+THRESHOLM_INLINE thresholm_shape thresholm_cl(uint8_t dims, uint8_t p, uint8_t n, uint8_t z) {
+    thresholm_shape shape = {dims, THRESHOLM_CL, p, n, z, 0};
+    return shape;
+}
+
+/* What a number that a call returned means, for people to read. The text is static. */
+THRESHOLM_INLINE const char *thresholm_refusal_text(uint8_t number) {
+    switch (number) {
+    case THRESHOLM_DONE: return "done";
+    case THRESHOLM_TOO_MANY_DIMS: return "a value here or in the result would have more than 9 dimensions";
+    case THRESHOLM_WRONG_COUNT:
+        return "a count does not fit: a value of d dimensions has 2^d numbers and a sheet at most 64 values and 4096 "
+            "numbers, no packing has that many, or there is no such value";
+    case THRESHOLM_NO_ROOM: return "there is not enough room for the result";
+    case THRESHOLM_NO_SUCH_GRADE:
+        return "the value has no such grade: grades go from 0 to the number of its dimensions";
+    case THRESHOLM_PLANAR:
+        return "the value is planar (a number and a turn in the plane), and the inverse of a planar value is not "
+            "worked out here";
+    case THRESHOLM_LEAST_POWER: return "the power is too far below zero: the least that can be taken is -2147483647";
+    case THRESHOLM_NO_FLAVOR:
+        return "this names no flavor: write VGA, PGA, or Cl with one to three whole numbers, in plain letters and "
+            "digits";
+    case THRESHOLM_NO_SPEC: return "after Cl come one to three whole numbers from 0 to 255, as in Cl 3 1";
+    case THRESHOLM_MALFORMED: return "this is not a rig sheet, or it is damaged";
+    default: return "no call returns this number";
+    }
+}
 
 #ifdef __cplusplus
 extern "C" {
 #endif
 
-/* ---- Refusals: the tests that calls make, and what they answer. */
+/* ---- The library. */
 
-/* The number that a call is refused with, or 0: its value has dims dimensions and count numbers; its result stands in
- * result dimensions, has needed numbers and goes to an output of room.
- * 1: dims or result above 9. 2: count not 2^dims. 3: room below needed. */
-uint8_t thresholm_refusal_of(uint8_t dims, uint8_t result, size_t count, size_t room, size_t needed);
-
-/* The same where there is a value and no output.
- * 1: dims above 9. 2: count not 2^dims. */
-uint8_t thresholm_value_refusal(uint8_t dims, size_t count);
-
-/* The same for two values, of dims and other dimensions; the result stands in result dimensions and goes to room.
- * 1: dims, other or result above 9. 2: count not 2^dims or count_right not 2^other. 3: room below 2^result. */
-uint8_t thresholm_pair_refusal(uint8_t dims, uint8_t other, uint8_t result, size_t count, size_t count_right,
-    size_t room);
-
-/* The answer of a call that is refused: returns number, and reports nothing. Where it is 0, which refuses nothing, it
- * reports shape 0 Vanilla. */
-uint8_t thresholm_refused(uint8_t number,
-    uint8_t *to_dims, uint8_t *to_kind, uint8_t *to_p, uint8_t *to_n, uint8_t *to_z);
-
-/* The answer of a call that is done: reports the shape, whatever its dimensions, and returns 0. Never refused. */
-uint8_t thresholm_done(uint8_t dims, uint8_t kind, uint8_t p, uint8_t n, uint8_t z,
-    uint8_t *to_dims, uint8_t *to_kind, uint8_t *to_p, uint8_t *to_n, uint8_t *to_z);
+/* The version of the library that is linked: major x 10000 + minor x 100 + patch. */
+THRESHOLM_NODISCARD uint32_t thresholm_version(void);
 
 /* ---- Flavors. */
 
-/* What basis vector index squares to: Vanilla 1; Projective 0 at index 0, else 1; Cl(p, n, z) 0 below z, then -1 for
- * n indices, then 1 (p plays no part). Never refused: an index is no dimension. */
-int8_t thresholm_metric(uint8_t kind, uint8_t p, uint8_t n, uint8_t z, uint8_t index);
-
-/* The flavor in which every basis vector that a value has squares to 0, Cl(0, 0, 255). Never refused. */
-void thresholm_null_flavor(uint8_t *to_kind, uint8_t *to_p, uint8_t *to_n, uint8_t *to_z);
+/* What basis vector index squares to. Vanilla 1; Projective 0 at index 0, else 1; Cl(p, n, z) 0 below z, then -1 for
+ * n indices, then 1 (p plays no part). Never refused: an index is no dimension. index: which basis vector. */
+THRESHOLM_NODISCARD int8_t thresholm_metric(const thresholm_shape *flavor, uint8_t index);
 
 /* The dimensions that a flavor adds to those that are stated: 1 for Projective, else 0. Never refused. */
-uint8_t thresholm_added_dims(uint8_t kind, uint8_t p, uint8_t n, uint8_t z);
+THRESHOLM_NODISCARD uint8_t thresholm_added_dims(const thresholm_shape *flavor);
 
 /* The dimensions that a change from one flavor to another adds: 1 from Vanilla to Projective, else 0. Never refused. */
-uint8_t thresholm_promotion(uint8_t kind, uint8_t p, uint8_t n, uint8_t z,
-    uint8_t kind_right, uint8_t p_right, uint8_t n_right, uint8_t z_right);
+THRESHOLM_NODISCARD uint8_t thresholm_promotion(const thresholm_shape *flavor, const thresholm_shape *new_flavor);
 
 /* The flavor that a text says: VGA, PGA, or Cl and a spec. The text after Cl is trimmed of bytes 9 to 13 and 32 and
  * split at space, tab and comma, empty parts dropped. The first part must be a number up to 255 (a leading + and
- * zeros allowed); a second or third that is missing or no such number counts as 0; a fourth refuses.
+ * zeros allowed); a second or third that is missing or no such number counts as 0; a fourth refuses. t: the text,
+ * without a zero byte at its end. to_flavor: the flavor.
  * 7: a byte above 127, or the text is neither VGA nor PGA and does not begin with Cl. 8: text after Cl is no spec. */
-uint8_t thresholm_try_from_str(const uint8_t *t, size_t t_len,
-    uint8_t *to_kind, uint8_t *to_p, uint8_t *to_n, uint8_t *to_z);
+THRESHOLM_NODISCARD uint8_t thresholm_try_from_str(const uint8_t *t, size_t t_len,
+    thresholm_shape *THRESHOLM_RESTRICT to_flavor);
 
-/* The text of a flavor: VGA, PGA, Cl3, Cl 3 1, Cl 3 1 1, the shortest with zeros dropped from the end. to_count
- * gets its bytes, at most 14; no zero byte follows. out: as many.
+/* The text of a flavor: VGA, PGA, Cl3, Cl 3 1, Cl 3 1 1, the shortest with zeros dropped from the end. No zero byte
+ * follows. out: as many bytes as the text has; THRESHOLM_MAX_FLAVOR_BYTES are enough. to_count: how many bytes it
+ * has.
  * 3: out_len below that. */
-uint8_t thresholm_write_to(uint8_t kind, uint8_t p, uint8_t n, uint8_t z, uint8_t *out, size_t out_len,
-    size_t *to_count);
+THRESHOLM_NODISCARD uint8_t thresholm_write_to(const thresholm_shape *flavor, uint8_t *THRESHOLM_RESTRICT out,
+    size_t out_len, size_t *THRESHOLM_RESTRICT to_count);
 
 /* ---- The order of masks. */
 
 /* How many blades there are: 2^dims.
  * 1: dims above 9. */
-uint8_t thresholm_blade_count(uint8_t dims, size_t *to_count);
+THRESHOLM_NODISCARD uint8_t thresholm_blade_count(uint8_t dims, size_t *THRESHOLM_RESTRICT to_count);
 
 /* The size of a grade: the binomial number, 0 for a grade above the dimensions.
  * 1: dims above 9. */
-uint8_t thresholm_grade_size(uint8_t dims, uint8_t grade, size_t *to_count);
+THRESHOLM_NODISCARD uint8_t thresholm_grade_size(uint8_t dims, uint8_t grade, size_t *THRESHOLM_RESTRICT to_count);
 
-/* The order and its inverse: masks[i] is the mask at place i, places[m] the place of mask m. to_count gets their
- * number, 2^dims. masks and places: as many.
+/* The order and its inverse: masks[i] is the mask at place i, places[m] the place of mask m. masks: 2^dims. places:
+ * as many.
  * 1: dims above 9. 3: masks_len or places_len below 2^dims. */
-uint8_t thresholm_order_of(uint8_t dims, uint16_t *masks, size_t masks_len, uint16_t *places, size_t places_len,
-    size_t *to_count);
+THRESHOLM_NODISCARD uint8_t thresholm_order_of(uint8_t dims, uint16_t *THRESHOLM_RESTRICT masks, size_t masks_len,
+    uint16_t *THRESHOLM_RESTRICT places, size_t places_len, size_t *THRESHOLM_RESTRICT to_count);
 
 /* ---- Shapes and their changes. */
 
-/* A shape made anew, as shapes are reported. Never refused, whatever its dimensions. */
-void thresholm_shape_of(uint8_t dims, uint8_t kind, uint8_t p, uint8_t n, uint8_t z,
-    uint8_t *to_dims, uint8_t *to_kind, uint8_t *to_p, uint8_t *to_n, uint8_t *to_z);
-
-/* The shape with other dimensions, its flavor kept. Never refused. */
-void thresholm_with_dims(uint8_t dims, uint8_t kind, uint8_t p, uint8_t n, uint8_t z, uint8_t new_dims,
-    uint8_t *to_dims, uint8_t *to_kind, uint8_t *to_p, uint8_t *to_n, uint8_t *to_z);
-
-/* The shape with another flavor, its dimensions kept: no promotion. Never refused. */
-void thresholm_with_flavor(uint8_t dims, uint8_t kind, uint8_t p, uint8_t n, uint8_t z,
-    uint8_t new_kind, uint8_t new_p, uint8_t new_n, uint8_t new_z,
-    uint8_t *to_dims, uint8_t *to_kind, uint8_t *to_p, uint8_t *to_n, uint8_t *to_z);
-
-/* The value at new_dims dimensions: each coefficient moves to its mask's new place, +0 fills, masks with bits outside
- * are dropped. Growing from 3, or shrinking to 3 from more, negates mask 101, zero included. out: 2^new_dims.
+/* The value at other dimensions. Each coefficient moves to its mask's new place, +0 fills, masks with bits outside
+ * are dropped. Growing from 3, or shrinking to 3 from more, negates mask 101, zero included. new_dims: the
+ * dimensions of the result. out: 2^new_dims.
  * 1: dims or new_dims above 9. 2: a_len not 2^dims. 3: out_len below 2^new_dims. */
-uint8_t thresholm_set_dims(uint8_t dims, uint8_t kind, uint8_t p, uint8_t n, uint8_t z, uint8_t new_dims,
-    const double *a, size_t a_len, double *out, size_t out_len,
-    uint8_t *to_dims, uint8_t *to_kind, uint8_t *to_p, uint8_t *to_n, uint8_t *to_z);
+THRESHOLM_NODISCARD uint8_t thresholm_set_dims(const thresholm_shape *shape, uint8_t new_dims, const double *a,
+    size_t a_len, double *THRESHOLM_RESTRICT out, size_t out_len, thresholm_shape *THRESHOLM_RESTRICT to_shape);
 
-/* The value in another flavor. From Vanilla to Projective bit i becomes bit i + 1, one dimension more, numbers
- * unchanged; any other change renames only. out: 2^result, where result is dims, and dims + 1 from Vanilla to
- * Projective.
+/* The value in another flavor, promoted from Vanilla to Projective. In a promotion bit i becomes bit i + 1, one
+ * dimension more, numbers unchanged; any other change of flavor renames only.
+ * Beware of e31: a Vanilla value of three dimensions with a number at e31 comes out with the other sign when it is
+ * promoted to Projective. Place 5 means e31 before; after it mask 1010 means e13 shifted up, and the number is
+ * carried over unchanged. A true promotion is to come.
+ * out: 2^result, where result is dims, and dims + 1 from Vanilla to Projective.
  * 1: dims or result above 9. 2: a_len not 2^dims. 3: out_len below 2^result. */
-uint8_t thresholm_set_flavor(uint8_t dims, uint8_t kind, uint8_t p, uint8_t n, uint8_t z,
-    uint8_t new_kind, uint8_t new_p, uint8_t new_n, uint8_t new_z, const double *a, size_t a_len,
-    double *out, size_t out_len, uint8_t *to_dims, uint8_t *to_kind, uint8_t *to_p, uint8_t *to_n, uint8_t *to_z);
+THRESHOLM_NODISCARD uint8_t thresholm_set_flavor(const thresholm_shape *shape, const thresholm_shape *new_flavor,
+    const double *a, size_t a_len, double *THRESHOLM_RESTRICT out, size_t out_len,
+    thresholm_shape *THRESHOLM_RESTRICT to_shape);
 
-/* The left one of two values brought to the right one, of which only the shape is given: a Vanilla value that meets
- * Projective is promoted (thresholm_set_flavor), then it is grown to dims_right as it is given (thresholm_set_dims).
- * It is not shrunk, and if not promoted it keeps its flavor. out: 2^result, where result is the larger of dims, one
- * more if promoted, and dims_right.
- * 1: dims or result above 9. 2: a_len not 2^dims. 3: out_len below 2^result. */
-uint8_t thresholm_conform_to(uint8_t dims, uint8_t kind, uint8_t p, uint8_t n, uint8_t z,
-    uint8_t dims_right, uint8_t kind_right, uint8_t p_right, uint8_t n_right, uint8_t z_right,
-    const double *a, size_t a_len, double *out, size_t out_len,
-    uint8_t *to_dims, uint8_t *to_kind, uint8_t *to_p, uint8_t *to_n, uint8_t *to_z);
+/* The left one of two values brought to the right one, of which only the shape is given. A Vanilla value that meets
+ * Projective is promoted (thresholm_set_flavor), then it is grown to right.dims as it is given (thresholm_set_dims).
+ * It is not shrunk, and if not promoted it keeps its flavor.
+ * Where a Vanilla value of three dimensions is promoted, a number at e31 comes out with the other sign: see
+ * thresholm_set_flavor.
+ * out: 2^result, where result is the larger of left.dims, one more if promoted, and right.dims.
+ * 1: left.dims or result above 9. 2: a_len not 2^left.dims. 3: out_len below 2^result. */
+THRESHOLM_NODISCARD uint8_t thresholm_conform_to(const thresholm_shape *left, const thresholm_shape *right,
+    const double *a, size_t a_len, double *THRESHOLM_RESTRICT out, size_t out_len,
+    thresholm_shape *THRESHOLM_RESTRICT to_shape);
 
-/* Two values brought together: the Vanilla one of a Vanilla and Projective pair is promoted (thresholm_set_flavor),
- * then the smaller is grown (thresholm_set_dims). Other flavors are kept. out and out_right: 2^result each, where
- * result is the larger of dims and dims_right, that of the promoted one being one more.
- * 1: dims, dims_right or result above 9. 2: a_len not 2^dims or b_len not 2^dims_right. 3: out_len or out_right_len
- * below 2^result. */
-uint8_t thresholm_conform(uint8_t dims, uint8_t kind, uint8_t p, uint8_t n, uint8_t z,
-    uint8_t dims_right, uint8_t kind_right, uint8_t p_right, uint8_t n_right, uint8_t z_right,
-    const double *a, size_t a_len, const double *b, size_t b_len, double *out, size_t out_len,
-    double *out_right, size_t out_right_len,
-    uint8_t *to_dims, uint8_t *to_kind, uint8_t *to_p, uint8_t *to_n, uint8_t *to_z,
-    uint8_t *to_dims_right, uint8_t *to_kind_right, uint8_t *to_p_right, uint8_t *to_n_right, uint8_t *to_z_right);
+/* Two values brought together: at the flavor and the dimensions in which they meet. The Vanilla one of a Vanilla and
+ * Projective pair is promoted (thresholm_set_flavor), then the smaller is grown (thresholm_set_dims). Other flavors
+ * are kept.
+ * Beware of e31: a Vanilla value of three dimensions with a number at e31 comes out with the other sign when it is
+ * promoted to Projective. Place 5 means e31 before; after it mask 1010 means e13 shifted up, and the number is
+ * carried over unchanged. A true promotion is to come.
+ * out: 2^result, where result is the larger of left.dims and right.dims, that of the promoted one being one more.
+ * out_right: 2^result. to_shape: the left value's new shape. to_shape_right: the right value's.
+ * 1: left.dims, right.dims or result above 9. 2: a_len not 2^left.dims or b_len not 2^right.dims. 3: out_len or
+ * out_right_len below 2^result. */
+THRESHOLM_NODISCARD uint8_t thresholm_conform(const thresholm_shape *left, const thresholm_shape *right,
+    const double *a, size_t a_len, const double *b, size_t b_len, double *THRESHOLM_RESTRICT out, size_t out_len,
+    double *THRESHOLM_RESTRICT out_right, size_t out_right_len, thresholm_shape *THRESHOLM_RESTRICT to_shape,
+    thresholm_shape *THRESHOLM_RESTRICT to_shape_right);
 
 /* ---- Single blades and single grades. */
 
 /* The coefficient of a mask, +0 for a mask outside.
  * 1: dims above 9. 2: a_len not 2^dims. */
-uint8_t thresholm_get_blade(uint8_t dims, uint8_t kind, uint8_t p, uint8_t n, uint8_t z, size_t mask,
-    const double *a, size_t a_len, double *to_value);
+THRESHOLM_NODISCARD uint8_t thresholm_get_blade(const thresholm_shape *shape, size_t mask, const double *a,
+    size_t a_len, double *THRESHOLM_RESTRICT to_value);
 
-/* The value with x at a mask. For a mask outside it is first grown, one dimension at a time (thresholm_set_dims:
- * growing 3 to 4 negates mask 101), until the mask fits. out: 2^result, where result is dims, or the fewest
- * dimensions that have the mask.
+/* The value with x at a mask, grown where the mask is outside. It is grown one dimension at a time
+ * (thresholm_set_dims: growing 3 to 4 negates mask 101), until the mask fits. out: 2^result, where result is dims,
+ * or the fewest dimensions that have the mask.
  * 1: dims above 9, or mask is 512 or more. 2: a_len not 2^dims. 3: out_len below 2^result. */
-uint8_t thresholm_set_blade(uint8_t dims, uint8_t kind, uint8_t p, uint8_t n, uint8_t z, size_t mask, double x,
-    const double *a, size_t a_len, double *out, size_t out_len,
-    uint8_t *to_dims, uint8_t *to_kind, uint8_t *to_p, uint8_t *to_n, uint8_t *to_z);
+THRESHOLM_NODISCARD uint8_t thresholm_set_blade(const thresholm_shape *shape, size_t mask, double x,
+    const double *a, size_t a_len, double *THRESHOLM_RESTRICT out, size_t out_len,
+    thresholm_shape *THRESHOLM_RESTRICT to_shape);
 
-/* The number that thresholm_grade is refused with, or 0.
+/* One grade of a value, as a part of the caller's own numbers. to_start: the place in a at which it starts.
+ * to_count: its size.
  * 1: dims above 9. 2: a_len not 2^dims. 4: grade above dims. */
-uint8_t thresholm_grade_refusal(uint8_t dims, uint8_t kind, uint8_t p, uint8_t n, uint8_t z, uint8_t grade,
-    const double *a, size_t a_len);
+THRESHOLM_NODISCARD uint8_t thresholm_grade(const thresholm_shape *shape, uint8_t grade, const double *a,
+    size_t a_len, size_t *THRESHOLM_RESTRICT to_start, size_t *THRESHOLM_RESTRICT to_count);
 
-/* One grade of a value, as a part of the caller's own numbers: the place in a at which it starts, and its size.
- * 1: dims above 9. 2: a_len not 2^dims. 4: grade above dims. */
-uint8_t thresholm_grade(uint8_t dims, uint8_t kind, uint8_t p, uint8_t n, uint8_t z, uint8_t grade,
-    const double *a, size_t a_len, size_t *to_start, size_t *to_count);
+/* ---- Values from few numbers. Where no number is given stands +0. */
 
-/* ---- Values from few numbers; +0 stands wherever none is given. */
-
-/* 0 to 9 numbers at grade 1; their count is the dimensions. out: 2^v_len.
+/* The numbers at grade 1; their count, 0 to 9, is the dimensions. out: 2^v_len.
  * 1: v_len above 9. 3: out_len below 2^v_len. */
-uint8_t thresholm_vector(const double *v, size_t v_len, uint8_t kind, uint8_t p, uint8_t n, uint8_t z,
-    double *out, size_t out_len, uint8_t *to_dims, uint8_t *to_kind, uint8_t *to_p, uint8_t *to_n, uint8_t *to_z);
+THRESHOLM_NODISCARD uint8_t thresholm_vector(const double *v, size_t v_len, const thresholm_shape *flavor,
+    double *THRESHOLM_RESTRICT out, size_t out_len, thresholm_shape *THRESHOLM_RESTRICT to_shape);
 
-/* 2 to 9 numbers at the grade below the last; their count is the dimensions. out: 2^v_len.
+/* The numbers at the grade below the last; their count, 2 to 9, is the dimensions. out: 2^v_len.
  * 1: v_len above 9. 2: v_len below 2. 3: out_len below 2^v_len. */
-uint8_t thresholm_n_1_blades(const double *v, size_t v_len, uint8_t kind, uint8_t p, uint8_t n, uint8_t z,
-    double *out, size_t out_len, uint8_t *to_dims, uint8_t *to_kind, uint8_t *to_p, uint8_t *to_n, uint8_t *to_z);
+THRESHOLM_NODISCARD uint8_t thresholm_n_1_blades(const double *v, size_t v_len, const thresholm_shape *flavor,
+    double *THRESHOLM_RESTRICT out, size_t out_len, thresholm_shape *THRESHOLM_RESTRICT to_shape);
 
-/* x at place 0. out: 2^result, where result is dims, and dims + 1 under Projective.
+/* x at place 0. shape: the stated dimensions and the flavor; under Projective the result has one dimension more.
+ * out: 2^result, where result is dims, and dims + 1 under Projective.
  * 1: result above 9. 3: out_len below 2^result. */
-uint8_t thresholm_scalar(uint8_t dims, double x, uint8_t kind, uint8_t p, uint8_t n, uint8_t z,
-    double *out, size_t out_len, uint8_t *to_dims, uint8_t *to_kind, uint8_t *to_p, uint8_t *to_n, uint8_t *to_z);
+THRESHOLM_NODISCARD uint8_t thresholm_scalar(const thresholm_shape *shape, double x, double *THRESHOLM_RESTRICT out,
+    size_t out_len, thresholm_shape *THRESHOLM_RESTRICT to_shape);
 
-/* x at the last place. out: 2^result, where result is dims, and dims + 1 under Projective.
+/* x at the last place. shape: the stated dimensions and the flavor; under Projective the result has one dimension
+ * more. out: 2^result, where result is dims, and dims + 1 under Projective.
  * 1: result above 9. 3: out_len below 2^result. */
-uint8_t thresholm_pseudoscalar(uint8_t dims, double x, uint8_t kind, uint8_t p, uint8_t n, uint8_t z,
-    double *out, size_t out_len, uint8_t *to_dims, uint8_t *to_kind, uint8_t *to_p, uint8_t *to_n, uint8_t *to_z);
+THRESHOLM_NODISCARD uint8_t thresholm_pseudoscalar(const thresholm_shape *shape, double x,
+    double *THRESHOLM_RESTRICT out, size_t out_len, thresholm_shape *THRESHOLM_RESTRICT to_shape);
 
-/* A packing: a full set, 2^dims numbers, is taken as it stands and becomes Vanilla, whatever flavor was given; a half
- * set fills the even grades; else the first grade of that size, from 0 through ceil((dims + 1) / 2) - 1. out: 2^dims.
+/* A packing: a full set, the even grades, or one grade from the left. A full set, 2^dims numbers, is taken as it
+ * stands and becomes Vanilla, whatever flavor was given; a half set fills the even grades; else the first grade of
+ * that size, from 0 through ceil((dims + 1) / 2) - 1. shape: the dimensions and the flavor. out: 2^dims.
  * 1: dims above 9. 2: no packing fits (none fits 0 numbers). 3: out_len below 2^dims. */
-uint8_t thresholm_blades_left(uint8_t dims, const double *v, size_t v_len,
-    uint8_t kind, uint8_t p, uint8_t n, uint8_t z, double *out, size_t out_len,
-    uint8_t *to_dims, uint8_t *to_kind, uint8_t *to_p, uint8_t *to_n, uint8_t *to_z);
+THRESHOLM_NODISCARD uint8_t thresholm_blades_left(const thresholm_shape *shape, const double *v, size_t v_len,
+    double *THRESHOLM_RESTRICT out, size_t out_len, thresholm_shape *THRESHOLM_RESTRICT to_shape);
 
-/* The same, but a half set fills the odd grades, and the first grade goes from floor((dims + 1) / 2) up. out: 2^dims.
+/* A packing: a full set, the odd grades, or one grade from the right half. As thresholm_blades_left, but a half set
+ * fills the odd grades, and the first grade goes from floor((dims + 1) / 2) up. shape: the dimensions and the
+ * flavor. out: 2^dims.
  * 1: dims above 9. 2: no packing fits (none fits 0 numbers). 3: out_len below 2^dims. */
-uint8_t thresholm_blades_right(uint8_t dims, const double *v, size_t v_len,
-    uint8_t kind, uint8_t p, uint8_t n, uint8_t z, double *out, size_t out_len,
-    uint8_t *to_dims, uint8_t *to_kind, uint8_t *to_p, uint8_t *to_n, uint8_t *to_z);
+THRESHOLM_NODISCARD uint8_t thresholm_blades_right(const thresholm_shape *shape, const double *v, size_t v_len,
+    double *THRESHOLM_RESTRICT out, size_t out_len, thresholm_shape *THRESHOLM_RESTRICT to_shape);
 
-/* ---- Some numbers of a value, by mask, in the order of masks: +0 for a mask outside, no sign adjusted. to_count
- * gets how many. */
+/* ---- Some numbers of a value. They are read by mask, in the order of masks: +0 for a mask outside, no sign
+ * adjusted. */
 
 /* All blades at d dimensions. out: 2^d.
  * 1: dims or d above 9. 2: a_len not 2^dims. 3: out_len below 2^d. */
-uint8_t thresholm_unpack_all(uint8_t dims, uint8_t kind, uint8_t p, uint8_t n, uint8_t z, uint8_t d,
-    const double *a, size_t a_len, double *out, size_t out_len, size_t *to_count);
+THRESHOLM_NODISCARD uint8_t thresholm_unpack_all(const thresholm_shape *shape, uint8_t d, const double *a,
+    size_t a_len, double *THRESHOLM_RESTRICT out, size_t out_len, size_t *THRESHOLM_RESTRICT to_count);
 
 /* The even blades at d dimensions; d = 0 gives the scalar. out: 2^(d - 1), and 1 where d is 0.
  * 1: dims or d above 9. 2: a_len not 2^dims. 3: out_len below that. */
-uint8_t thresholm_unpack_even(uint8_t dims, uint8_t kind, uint8_t p, uint8_t n, uint8_t z, uint8_t d,
-    const double *a, size_t a_len, double *out, size_t out_len, size_t *to_count);
+THRESHOLM_NODISCARD uint8_t thresholm_unpack_even(const thresholm_shape *shape, uint8_t d, const double *a,
+    size_t a_len, double *THRESHOLM_RESTRICT out, size_t out_len, size_t *THRESHOLM_RESTRICT to_count);
 
 /* The odd blades at d dimensions; d = 0 gives the scalar. out: 2^(d - 1), and 1 where d is 0.
  * 1: dims or d above 9. 2: a_len not 2^dims. 3: out_len below that. */
-uint8_t thresholm_unpack_odd(uint8_t dims, uint8_t kind, uint8_t p, uint8_t n, uint8_t z, uint8_t d,
-    const double *a, size_t a_len, double *out, size_t out_len, size_t *to_count);
+THRESHOLM_NODISCARD uint8_t thresholm_unpack_odd(const thresholm_shape *shape, uint8_t d, const double *a,
+    size_t a_len, double *THRESHOLM_RESTRICT out, size_t out_len, size_t *THRESHOLM_RESTRICT to_count);
 
 /* The even blades at the value's own dimensions. out: 2^(dims - 1), and 1 where dims is 0.
  * 1: dims above 9. 2: a_len not 2^dims. 3: out_len below that. */
-uint8_t thresholm_unpack_own_even(uint8_t dims, uint8_t kind, uint8_t p, uint8_t n, uint8_t z,
-    const double *a, size_t a_len, double *out, size_t out_len, size_t *to_count);
+THRESHOLM_NODISCARD uint8_t thresholm_unpack_own_even(const thresholm_shape *shape, const double *a, size_t a_len,
+    double *THRESHOLM_RESTRICT out, size_t out_len, size_t *THRESHOLM_RESTRICT to_count);
 
 /* The odd blades at the value's own dimensions; dims = 0 gives +0. out: 2^(dims - 1), and 1 where dims is 0.
  * 1: dims above 9. 2: a_len not 2^dims. 3: out_len below that. */
-uint8_t thresholm_unpack_own_odd(uint8_t dims, uint8_t kind, uint8_t p, uint8_t n, uint8_t z,
-    const double *a, size_t a_len, double *out, size_t out_len, size_t *to_count);
+THRESHOLM_NODISCARD uint8_t thresholm_unpack_own_odd(const thresholm_shape *shape, const double *a, size_t a_len,
+    double *THRESHOLM_RESTRICT out, size_t out_len, size_t *THRESHOLM_RESTRICT to_count);
 
 /* The numbers of grade 1; none where dims is 0. out: dims.
  * 1: dims above 9. 2: a_len not 2^dims. 3: out_len below dims. */
-uint8_t thresholm_unpack_vector(uint8_t dims, uint8_t kind, uint8_t p, uint8_t n, uint8_t z,
-    const double *a, size_t a_len, double *out, size_t out_len, size_t *to_count);
+THRESHOLM_NODISCARD uint8_t thresholm_unpack_vector(const thresholm_shape *shape, const double *a, size_t a_len,
+    double *THRESHOLM_RESTRICT out, size_t out_len, size_t *THRESHOLM_RESTRICT to_count);
 
-/* ---- The five products. Both values are conformed (thresholm_conform); result is the dimensions in which they meet.
- * The result starts at +0; for b's places in order, and a's places inside, a pair with nonzero metric adds
+/* ---- The five products. Both values are conformed (thresholm_conform); result is the dimensions in which they
+ * meet. The result starts at +0; for b's places in order, and a's places inside, a pair with nonzero metric adds
  * (metric x a) x b at the place of a xor b. Metric: -1 to the number of index pairs i in a, j in b with j < i, times
  * the flavor metrics of shared bits; at 3 dimensions one more sign change for each of a, b and a xor b that is 101.
  * Then snap: where the fraction of the size is below 1e-14, or 1 less it is, the nearest whole number replaces it,
- * sign kept. Where flavors still differ, the left one's metric is used, and its flavor kept. to_pairs gets the
- * number of contributing pairs. */
+ * sign kept. Where flavors still differ, the left one's metric is used, and its flavor kept. */
 
-/* The general product: all pairs. out: 2^result.
- * 1: dims, dims_right or result above 9. 2: a_len not 2^dims or b_len not 2^dims_right. 3: out_len below 2^result. */
-uint8_t thresholm_general_product(uint8_t dims, uint8_t kind, uint8_t p, uint8_t n, uint8_t z,
-    uint8_t dims_right, uint8_t kind_right, uint8_t p_right, uint8_t n_right, uint8_t z_right,
-    const double *a, size_t a_len, const double *b, size_t b_len, double *out, size_t out_len,
-    uint8_t *to_dims, uint8_t *to_kind, uint8_t *to_p, uint8_t *to_n, uint8_t *to_z, uint32_t *to_pairs);
+/* The general product: all pairs. Where a Vanilla value of three dimensions is promoted, a number at e31 comes out
+ * with the other sign: see thresholm_set_flavor. out: 2^result.
+ * 1: left.dims, right.dims or result above 9. 2: a_len not 2^left.dims or b_len not 2^right.dims. 3: out_len below
+ * 2^result. */
+THRESHOLM_NODISCARD uint8_t thresholm_general_product(const thresholm_shape *left, const thresholm_shape *right,
+    const double *a, size_t a_len, const double *b, size_t b_len, double *THRESHOLM_RESTRICT out, size_t out_len,
+    thresholm_shape *THRESHOLM_RESTRICT to_shape, uint32_t *THRESHOLM_RESTRICT to_pairs);
 
-/* The left contraction: the pairs with a within b. out: 2^result.
- * 1: dims, dims_right or result above 9. 2: a_len not 2^dims or b_len not 2^dims_right. 3: out_len below 2^result. */
-uint8_t thresholm_left_contraction(uint8_t dims, uint8_t kind, uint8_t p, uint8_t n, uint8_t z,
-    uint8_t dims_right, uint8_t kind_right, uint8_t p_right, uint8_t n_right, uint8_t z_right,
-    const double *a, size_t a_len, const double *b, size_t b_len, double *out, size_t out_len,
-    uint8_t *to_dims, uint8_t *to_kind, uint8_t *to_p, uint8_t *to_n, uint8_t *to_z, uint32_t *to_pairs);
+/* The left contraction: the pairs with a within b. Where a Vanilla value of three dimensions is promoted, a number
+ * at e31 comes out with the other sign: see thresholm_set_flavor. out: 2^result.
+ * 1: left.dims, right.dims or result above 9. 2: a_len not 2^left.dims or b_len not 2^right.dims. 3: out_len below
+ * 2^result. */
+THRESHOLM_NODISCARD uint8_t thresholm_left_contraction(const thresholm_shape *left, const thresholm_shape *right,
+    const double *a, size_t a_len, const double *b, size_t b_len, double *THRESHOLM_RESTRICT out, size_t out_len,
+    thresholm_shape *THRESHOLM_RESTRICT to_shape, uint32_t *THRESHOLM_RESTRICT to_pairs);
 
-/* The right contraction: the pairs with b within a. out: 2^result.
- * 1: dims, dims_right or result above 9. 2: a_len not 2^dims or b_len not 2^dims_right. 3: out_len below 2^result. */
-uint8_t thresholm_right_contraction(uint8_t dims, uint8_t kind, uint8_t p, uint8_t n, uint8_t z,
-    uint8_t dims_right, uint8_t kind_right, uint8_t p_right, uint8_t n_right, uint8_t z_right,
-    const double *a, size_t a_len, const double *b, size_t b_len, double *out, size_t out_len,
-    uint8_t *to_dims, uint8_t *to_kind, uint8_t *to_p, uint8_t *to_n, uint8_t *to_z, uint32_t *to_pairs);
+/* The right contraction: the pairs with b within a. Where a Vanilla value of three dimensions is promoted, a number
+ * at e31 comes out with the other sign: see thresholm_set_flavor. out: 2^result.
+ * 1: left.dims, right.dims or result above 9. 2: a_len not 2^left.dims or b_len not 2^right.dims. 3: out_len below
+ * 2^result. */
+THRESHOLM_NODISCARD uint8_t thresholm_right_contraction(const thresholm_shape *left, const thresholm_shape *right,
+    const double *a, size_t a_len, const double *b, size_t b_len, double *THRESHOLM_RESTRICT out, size_t out_len,
+    thresholm_shape *THRESHOLM_RESTRICT to_shape, uint32_t *THRESHOLM_RESTRICT to_pairs);
 
-/* The inner product: the pairs with either within the other. out: 2^result.
- * 1: dims, dims_right or result above 9. 2: a_len not 2^dims or b_len not 2^dims_right. 3: out_len below 2^result. */
-uint8_t thresholm_inner_product(uint8_t dims, uint8_t kind, uint8_t p, uint8_t n, uint8_t z,
-    uint8_t dims_right, uint8_t kind_right, uint8_t p_right, uint8_t n_right, uint8_t z_right,
-    const double *a, size_t a_len, const double *b, size_t b_len, double *out, size_t out_len,
-    uint8_t *to_dims, uint8_t *to_kind, uint8_t *to_p, uint8_t *to_n, uint8_t *to_z, uint32_t *to_pairs);
+/* The inner product: the pairs with either within the other. Where a Vanilla value of three dimensions is promoted,
+ * a number at e31 comes out with the other sign: see thresholm_set_flavor. out: 2^result.
+ * 1: left.dims, right.dims or result above 9. 2: a_len not 2^left.dims or b_len not 2^right.dims. 3: out_len below
+ * 2^result. */
+THRESHOLM_NODISCARD uint8_t thresholm_inner_product(const thresholm_shape *left, const thresholm_shape *right,
+    const double *a, size_t a_len, const double *b, size_t b_len, double *THRESHOLM_RESTRICT out, size_t out_len,
+    thresholm_shape *THRESHOLM_RESTRICT to_shape, uint32_t *THRESHOLM_RESTRICT to_pairs);
 
-/* The outer product: all pairs, under the null flavor; the left flavor is kept. out: 2^result.
- * 1: dims, dims_right or result above 9. 2: a_len not 2^dims or b_len not 2^dims_right. 3: out_len below 2^result. */
-uint8_t thresholm_outer_product(uint8_t dims, uint8_t kind, uint8_t p, uint8_t n, uint8_t z,
-    uint8_t dims_right, uint8_t kind_right, uint8_t p_right, uint8_t n_right, uint8_t z_right,
-    const double *a, size_t a_len, const double *b, size_t b_len, double *out, size_t out_len,
-    uint8_t *to_dims, uint8_t *to_kind, uint8_t *to_p, uint8_t *to_n, uint8_t *to_z, uint32_t *to_pairs);
+/* The outer product: all pairs, under the null flavor; the left flavor is kept. Where a Vanilla value of three
+ * dimensions is promoted, a number at e31 comes out with the other sign: see thresholm_set_flavor. out: 2^result.
+ * 1: left.dims, right.dims or result above 9. 2: a_len not 2^left.dims or b_len not 2^right.dims. 3: out_len below
+ * 2^result. */
+THRESHOLM_NODISCARD uint8_t thresholm_outer_product(const thresholm_shape *left, const thresholm_shape *right,
+    const double *a, size_t a_len, const double *b, size_t b_len, double *THRESHOLM_RESTRICT out, size_t out_len,
+    thresholm_shape *THRESHOLM_RESTRICT to_shape, uint32_t *THRESHOLM_RESTRICT to_pairs);
 
-/* ---- Operators. Of *, + and -, result is the larger of dims and dims_right, that of a promoted value being one
- * more. A Vanilla value that meets Projective is promoted; the right one only where its count is right and it is not
- * scalar. */
+/* ---- Operators. Of *, + and -, result is the larger of left.dims and right.dims, that of a promoted value being
+ * one more. A Vanilla value that meets Projective is promoted; the right one only where its count is right and it is
+ * not scalar. */
 
-/* *: by a scalar on the right the left side is conformed (thresholm_conform_to) and each coefficient multiplied,
- * unless by 1.0, with no snap; else the general product. out: 2^result.
- * 1: dims, dims_right or result above 9. 2: a_len not 2^dims or b_len not 2^dims_right. 3: out_len below 2^result. */
-uint8_t thresholm_mul(uint8_t dims, uint8_t kind, uint8_t p, uint8_t n, uint8_t z,
-    uint8_t dims_right, uint8_t kind_right, uint8_t p_right, uint8_t n_right, uint8_t z_right,
-    const double *a, size_t a_len, const double *b, size_t b_len, double *out, size_t out_len,
-    uint8_t *to_dims, uint8_t *to_kind, uint8_t *to_p, uint8_t *to_n, uint8_t *to_z);
+/* *: by a scalar on the right each coefficient is multiplied, else the general product (thresholm_general_product).
+ * By a scalar the left side is conformed first (thresholm_conform_to); it is multiplied unless by 1.0, and nothing
+ * snaps.
+ * Beware of e31: a Vanilla value of three dimensions with a number at e31 comes out with the other sign when it is
+ * promoted to Projective. Place 5 means e31 before; after it mask 1010 means e13 shifted up, and the number is
+ * carried over unchanged. A true promotion is to come.
+ * out: 2^result.
+ * 1: left.dims, right.dims or result above 9. 2: a_len not 2^left.dims or b_len not 2^right.dims. 3: out_len below
+ * 2^result. */
+THRESHOLM_NODISCARD uint8_t thresholm_mul(const thresholm_shape *left, const thresholm_shape *right,
+    const double *a, size_t a_len, const double *b, size_t b_len, double *THRESHOLM_RESTRICT out, size_t out_len,
+    thresholm_shape *THRESHOLM_RESTRICT to_shape);
 
 /* +: a scalar on the right is added at place 0 of the conformed left side; else both are conformed and added
- * everywhere. Where flavors still differ, the left one is kept. out: 2^result.
- * 1: dims, dims_right or result above 9. 2: a_len not 2^dims or b_len not 2^dims_right. 3: out_len below 2^result. */
-uint8_t thresholm_add(uint8_t dims, uint8_t kind, uint8_t p, uint8_t n, uint8_t z,
-    uint8_t dims_right, uint8_t kind_right, uint8_t p_right, uint8_t n_right, uint8_t z_right,
-    const double *a, size_t a_len, const double *b, size_t b_len, double *out, size_t out_len,
-    uint8_t *to_dims, uint8_t *to_kind, uint8_t *to_p, uint8_t *to_n, uint8_t *to_z);
+ * everywhere. Where flavors still differ, the left one is kept.
+ * Where a Vanilla value of three dimensions is promoted, a number at e31 comes out with the other sign: see
+ * thresholm_set_flavor.
+ * out: 2^result.
+ * 1: left.dims, right.dims or result above 9. 2: a_len not 2^left.dims or b_len not 2^right.dims. 3: out_len below
+ * 2^result. */
+THRESHOLM_NODISCARD uint8_t thresholm_add(const thresholm_shape *left, const thresholm_shape *right,
+    const double *a, size_t a_len, const double *b, size_t b_len, double *THRESHOLM_RESTRICT out, size_t out_len,
+    thresholm_shape *THRESHOLM_RESTRICT to_shape);
 
 /* -: a scalar on the right is subtracted at place 0 of the conformed left side; else both are conformed and
- * subtracted everywhere. Where flavors still differ, the left one is kept. out: 2^result.
- * 1: dims, dims_right or result above 9. 2: a_len not 2^dims or b_len not 2^dims_right. 3: out_len below 2^result. */
-uint8_t thresholm_sub(uint8_t dims, uint8_t kind, uint8_t p, uint8_t n, uint8_t z,
-    uint8_t dims_right, uint8_t kind_right, uint8_t p_right, uint8_t n_right, uint8_t z_right,
-    const double *a, size_t a_len, const double *b, size_t b_len, double *out, size_t out_len,
-    uint8_t *to_dims, uint8_t *to_kind, uint8_t *to_p, uint8_t *to_n, uint8_t *to_z);
+ * subtracted everywhere. Where flavors still differ, the left one is kept.
+ * Where a Vanilla value of three dimensions is promoted, a number at e31 comes out with the other sign: see
+ * thresholm_set_flavor.
+ * out: 2^result.
+ * 1: left.dims, right.dims or result above 9. 2: a_len not 2^left.dims or b_len not 2^right.dims. 3: out_len below
+ * 2^result. */
+THRESHOLM_NODISCARD uint8_t thresholm_sub(const thresholm_shape *left, const thresholm_shape *right,
+    const double *a, size_t a_len, const double *b, size_t b_len, double *THRESHOLM_RESTRICT out, size_t out_len,
+    thresholm_shape *THRESHOLM_RESTRICT to_shape);
 
-/* /: by a scalar value f each coefficient is multiplied by 1 / f, unless that is 1.0, and nothing is conformed; by
- * others the left is multiplied (*) by the inverse (thresholm_inverted). out: 2^result, where result is dims if the
- * right is scalar or its count is wrong, and else that of * by the inverse (by the right itself if it is planar).
- * 1: dims, dims_right or result above 9. 2: a_len not 2^dims or b_len not 2^dims_right. 3: out_len below 2^result.
- * 5: the right value is planar. */
-uint8_t thresholm_div(uint8_t dims, uint8_t kind, uint8_t p, uint8_t n, uint8_t z,
-    uint8_t dims_right, uint8_t kind_right, uint8_t p_right, uint8_t n_right, uint8_t z_right,
-    const double *a, size_t a_len, const double *b, size_t b_len, double *out, size_t out_len,
-    uint8_t *to_dims, uint8_t *to_kind, uint8_t *to_p, uint8_t *to_n, uint8_t *to_z);
+/* /: over a scalar's number, else times the inverse. By a scalar value f each coefficient is multiplied by 1 / f,
+ * unless that is 1.0, and nothing is conformed; by others the left is multiplied (thresholm_mul) by the inverse
+ * (thresholm_inverted).
+ * Where a Vanilla value of three dimensions is promoted, a number at e31 comes out with the other sign: see
+ * thresholm_set_flavor.
+ * out: 2^result, where result is left.dims if the right is scalar or its count is wrong, and else that of * by the
+ * inverse (by the right itself if it is planar).
+ * 1: left.dims, right.dims or result above 9. 2: a_len not 2^left.dims or b_len not 2^right.dims. 3: out_len below
+ * 2^result. 5: the right value is planar. */
+THRESHOLM_NODISCARD uint8_t thresholm_div(const thresholm_shape *left, const thresholm_shape *right,
+    const double *a, size_t a_len, const double *b, size_t b_len, double *THRESHOLM_RESTRICT out, size_t out_len,
+    thresholm_shape *THRESHOLM_RESTRICT to_shape);
 
 /* A value times a number: each coefficient is multiplied, unless by 1.0, with no snap. out: 2^dims.
  * 1: dims above 9. 2: a_len not 2^dims. 3: out_len below 2^dims. */
-uint8_t thresholm_mul_f64(uint8_t dims, uint8_t kind, uint8_t p, uint8_t n, uint8_t z, double f,
-    const double *a, size_t a_len, double *out, size_t out_len,
-    uint8_t *to_dims, uint8_t *to_kind, uint8_t *to_p, uint8_t *to_n, uint8_t *to_z);
+THRESHOLM_NODISCARD uint8_t thresholm_mul_f64(const thresholm_shape *shape, double f, const double *a, size_t a_len,
+    double *THRESHOLM_RESTRICT out, size_t out_len, thresholm_shape *THRESHOLM_RESTRICT to_shape);
 
 /* A value over a number: each coefficient is multiplied by 1 / f, unless that is 1.0, with no snap. out: 2^dims.
  * 1: dims above 9. 2: a_len not 2^dims. 3: out_len below 2^dims. */
-uint8_t thresholm_div_f64(uint8_t dims, uint8_t kind, uint8_t p, uint8_t n, uint8_t z, double f,
-    const double *a, size_t a_len, double *out, size_t out_len,
-    uint8_t *to_dims, uint8_t *to_kind, uint8_t *to_p, uint8_t *to_n, uint8_t *to_z);
+THRESHOLM_NODISCARD uint8_t thresholm_div_f64(const thresholm_shape *shape, double f, const double *a, size_t a_len,
+    double *THRESHOLM_RESTRICT out, size_t out_len, thresholm_shape *THRESHOLM_RESTRICT to_shape);
 
 /* A value negated, zeros too. out: 2^dims.
  * 1: dims above 9. 2: a_len not 2^dims. 3: out_len below 2^dims. */
-uint8_t thresholm_neg(uint8_t dims, uint8_t kind, uint8_t p, uint8_t n, uint8_t z, const double *a, size_t a_len,
-    double *out, size_t out_len, uint8_t *to_dims, uint8_t *to_kind, uint8_t *to_p, uint8_t *to_n, uint8_t *to_z);
+THRESHOLM_NODISCARD uint8_t thresholm_neg(const thresholm_shape *shape, const double *a, size_t a_len,
+    double *THRESHOLM_RESTRICT out, size_t out_len, thresholm_shape *THRESHOLM_RESTRICT to_shape);
 
 /* ---- Calls on one value, and the regressive product. */
 
 /* Grades 2, 3 mod 4 negated, zeros too. out: 2^dims.
  * 1: dims above 9. 2: a_len not 2^dims. 3: out_len below 2^dims. */
-uint8_t thresholm_reverse(uint8_t dims, uint8_t kind, uint8_t p, uint8_t n, uint8_t z,
-    const double *a, size_t a_len, double *out, size_t out_len,
-    uint8_t *to_dims, uint8_t *to_kind, uint8_t *to_p, uint8_t *to_n, uint8_t *to_z);
+THRESHOLM_NODISCARD uint8_t thresholm_reverse(const thresholm_shape *shape, const double *a, size_t a_len,
+    double *THRESHOLM_RESTRICT out, size_t out_len, thresholm_shape *THRESHOLM_RESTRICT to_shape);
 
 /* The other grades negated, zeros too. out: 2^dims.
  * 1: dims above 9. 2: a_len not 2^dims. 3: out_len below 2^dims. */
-uint8_t thresholm_inv_reverse(uint8_t dims, uint8_t kind, uint8_t p, uint8_t n, uint8_t z,
-    const double *a, size_t a_len, double *out, size_t out_len,
-    uint8_t *to_dims, uint8_t *to_kind, uint8_t *to_p, uint8_t *to_n, uint8_t *to_z);
+THRESHOLM_NODISCARD uint8_t thresholm_inv_reverse(const thresholm_shape *shape, const double *a, size_t a_len,
+    double *THRESHOLM_RESTRICT out, size_t out_len, thresholm_shape *THRESHOLM_RESTRICT to_shape);
 
 /* The product with the Vanilla pseudo unit on the right, metric Vanilla, own flavor kept. out: 2^dims.
  * 1: dims above 9. 2: a_len not 2^dims. 3: out_len below 2^dims. */
-uint8_t thresholm_dual(uint8_t dims, uint8_t kind, uint8_t p, uint8_t n, uint8_t z, const double *a, size_t a_len,
-    double *out, size_t out_len, uint8_t *to_dims, uint8_t *to_kind, uint8_t *to_p, uint8_t *to_n, uint8_t *to_z);
+THRESHOLM_NODISCARD uint8_t thresholm_dual(const thresholm_shape *shape, const double *a, size_t a_len,
+    double *THRESHOLM_RESTRICT out, size_t out_len, thresholm_shape *THRESHOLM_RESTRICT to_shape);
 
 /* The Vanilla pseudo unit * the value read as Vanilla, own flavor put back after. out: 2^dims.
  * 1: dims above 9. 2: a_len not 2^dims. 3: out_len below 2^dims. */
-uint8_t thresholm_antidual(uint8_t dims, uint8_t kind, uint8_t p, uint8_t n, uint8_t z,
-    const double *a, size_t a_len, double *out, size_t out_len,
-    uint8_t *to_dims, uint8_t *to_kind, uint8_t *to_p, uint8_t *to_n, uint8_t *to_z);
+THRESHOLM_NODISCARD uint8_t thresholm_antidual(const thresholm_shape *shape, const double *a, size_t a_len,
+    double *THRESHOLM_RESTRICT out, size_t out_len, thresholm_shape *THRESHOLM_RESTRICT to_shape);
 
-/* The antidual of the outer product of both duals, each dual made at its value's own dimensions. result: the
- * dimensions in which the values meet (thresholm_conform). out: 2^result.
- * 1: dims, dims_right or result above 9. 2: a_len not 2^dims or b_len not 2^dims_right. 3: out_len below 2^result. */
-uint8_t thresholm_regressive_product(uint8_t dims, uint8_t kind, uint8_t p, uint8_t n, uint8_t z,
-    uint8_t dims_right, uint8_t kind_right, uint8_t p_right, uint8_t n_right, uint8_t z_right,
-    const double *a, size_t a_len, const double *b, size_t b_len, double *out, size_t out_len,
-    uint8_t *to_dims, uint8_t *to_kind, uint8_t *to_p, uint8_t *to_n, uint8_t *to_z);
+/* The antidual of the outer product of both duals, each dual made at its value's own dimensions. Where a Vanilla
+ * value of three dimensions is promoted, its dual is, and a number at e31 of that one comes out with the other sign:
+ * see thresholm_set_flavor. out: 2^result, where result is the dimensions in which the values meet
+ * (thresholm_conform).
+ * 1: left.dims, right.dims or result above 9. 2: a_len not 2^left.dims or b_len not 2^right.dims. 3: out_len below
+ * 2^result. */
+THRESHOLM_NODISCARD uint8_t thresholm_regressive_product(const thresholm_shape *left, const thresholm_shape *right,
+    const double *a, size_t a_len, const double *b, size_t b_len, double *THRESHOLM_RESTRICT out, size_t out_len,
+    thresholm_shape *THRESHOLM_RESTRICT to_shape);
 
-/* The inverse. Scalar: 1 / f at place 0, the rest kept. Else s is place 0, x the value with -s added there. If x
- * squared is scalar q: negate x, add s, divide by s x s - q. Else all zero, NaN at place 0. out: 2^dims.
+/* The inverse, by a formula that does not find every one. Scalar: 1 / f at place 0, the rest kept. Else s is place
+ * 0, x the value with -s added there. If x squared is scalar q: negate x, add s, divide by s x s - q. NaN at place 0
+ * where x squared is not scalar, and zero elsewhere: a screw (a rotation with a shift along its axis) has an inverse
+ * which this formula does not find. The reverse (thresholm_reverse) is the way back from a unit move. out: 2^dims.
  * 1: dims above 9. 2: a_len not 2^dims. 3: out_len below 2^dims. 5: the value is planar. */
-uint8_t thresholm_inverted(uint8_t dims, uint8_t kind, uint8_t p, uint8_t n, uint8_t z,
-    const double *a, size_t a_len, double *out, size_t out_len,
-    uint8_t *to_dims, uint8_t *to_kind, uint8_t *to_p, uint8_t *to_n, uint8_t *to_z);
+THRESHOLM_NODISCARD uint8_t thresholm_inverted(const thresholm_shape *shape, const double *a, size_t a_len,
+    double *THRESHOLM_RESTRICT out, size_t out_len, thresholm_shape *THRESHOLM_RESTRICT to_shape);
 
-/* A whole power; a negative one is that of the inverse. 1, 2, -1, -2 are direct. Others start from thresholm_scalar
- * and go low bit first: * by the base, then the base squared by the general product. out: 2^result, where result is
- * dims, and dims + 1 under Projective unless the power is direct.
+/* A whole power; a negative one is that of the inverse (thresholm_inverted). 1, 2, -1, -2 are direct. Others start
+ * from thresholm_scalar and go low bit first: * by the base, then the base squared by the general product. exponent:
+ * the power. out: 2^result, where result is dims, and dims + 1 under Projective unless the power is direct.
  * 1: dims or result above 9. 2: a_len not 2^dims. 3: out_len below 2^result. 5: exponent below 0 and the value
  * planar. 6: exponent is the least int32_t. */
-uint8_t thresholm_powi(uint8_t dims, uint8_t kind, uint8_t p, uint8_t n, uint8_t z, int32_t exponent,
-    const double *a, size_t a_len, double *out, size_t out_len,
-    uint8_t *to_dims, uint8_t *to_kind, uint8_t *to_p, uint8_t *to_n, uint8_t *to_z);
+THRESHOLM_NODISCARD uint8_t thresholm_powi(const thresholm_shape *shape, int32_t exponent, const double *a,
+    size_t a_len, double *THRESHOLM_RESTRICT out, size_t out_len, thresholm_shape *THRESHOLM_RESTRICT to_shape);
 
 /* Place 0 kept, and +0 in every other. out: 2^dims.
  * 1: dims above 9. 2: a_len not 2^dims. 3: out_len below 2^dims. */
-uint8_t thresholm_make_scalar_only(uint8_t dims, uint8_t kind, uint8_t p, uint8_t n, uint8_t z,
-    const double *a, size_t a_len, double *out, size_t out_len,
-    uint8_t *to_dims, uint8_t *to_kind, uint8_t *to_p, uint8_t *to_n, uint8_t *to_z);
+THRESHOLM_NODISCARD uint8_t thresholm_make_scalar_only(const thresholm_shape *shape, const double *a, size_t a_len,
+    double *THRESHOLM_RESTRICT out, size_t out_len, thresholm_shape *THRESHOLM_RESTRICT to_shape);
 
-/* The squared magnitude: the sum of (w x c) x c from place 0 up, w being the product of the flavor metrics of the
- * mask's bits with no swap sign, zeros multiplied too.
+/* The squared magnitude: the sum of the squares by the metric. It sums (w x c) x c from place 0 up, w being the
+ * product of the flavor metrics of the mask's bits with no swap sign, zeros multiplied too.
  * 1: dims above 9. 2: a_len not 2^dims. */
-uint8_t thresholm_squared_magnitude(uint8_t dims, uint8_t kind, uint8_t p, uint8_t n, uint8_t z,
-    const double *a, size_t a_len, double *to_value);
+THRESHOLM_NODISCARD uint8_t thresholm_squared_magnitude(const thresholm_shape *shape, const double *a, size_t a_len,
+    double *THRESHOLM_RESTRICT to_value);
 
-/* The value with +0 at place 0; to_value gets the number that was there. out: 2^dims.
+/* The value with +0 at place 0, and the number that was there. out: 2^dims. to_value: the number that was at place 0.
  * 1: dims above 9. 2: a_len not 2^dims. 3: out_len below 2^dims. */
-uint8_t thresholm_take_scalar(uint8_t dims, uint8_t kind, uint8_t p, uint8_t n, uint8_t z,
-    const double *a, size_t a_len, double *out, size_t out_len,
-    uint8_t *to_dims, uint8_t *to_kind, uint8_t *to_p, uint8_t *to_n, uint8_t *to_z, double *to_value);
+THRESHOLM_NODISCARD uint8_t thresholm_take_scalar(const thresholm_shape *shape, const double *a, size_t a_len,
+    double *THRESHOLM_RESTRICT out, size_t out_len, thresholm_shape *THRESHOLM_RESTRICT to_shape,
+    double *THRESHOLM_RESTRICT to_value);
 
-/* to_test gets 0 for a scalar value, 1 for a planar one and 2 for neither, scalar tried first. to_re and to_im get the
- * scalar's number and +0, the planar value's places 0 and 3, or +0 twice.
+/* Whether a value is scalar with its number, planar with a complex pair, or neither; scalar is tried first. to_test:
+ * 0 for a scalar value, 1 for a planar one, 2 for neither. to_re: the scalar's number, the planar value's place 0,
+ * or +0. to_im: the planar value's place 3, or +0.
  * 1: dims above 9. 2: a_len not 2^dims. */
-uint8_t thresholm_scalar_test(uint8_t dims, uint8_t kind, uint8_t p, uint8_t n, uint8_t z,
-    const double *a, size_t a_len, uint8_t *to_test, double *to_re, double *to_im);
+THRESHOLM_NODISCARD uint8_t thresholm_scalar_test(const thresholm_shape *shape, const double *a, size_t a_len,
+    uint8_t *THRESHOLM_RESTRICT to_test, double *THRESHOLM_RESTRICT to_re, double *THRESHOLM_RESTRICT to_im);
 
 /* ---- Equality and order, as the workstation has them. Neither looks at the flavors. */
 
-/* ==, as 1 or 0: it holds where both are scalar with equal numbers, or neither is scalar, so any two values that
- * are not scalar are equal; otherwise where counts and places are the same, NaN equal to NaN.
- * 1: dims or dims_right above 9. 2: a_len not 2^dims or b_len not 2^dims_right. */
-uint8_t thresholm_eq(uint8_t dims, uint8_t kind, uint8_t p, uint8_t n, uint8_t z,
-    uint8_t dims_right, uint8_t kind_right, uint8_t p_right, uint8_t n_right, uint8_t z_right,
-    const double *a, size_t a_len, const double *b, size_t b_len, uint8_t *to_yes);
+/* ==: any two values that are not scalar are equal. It holds where both are scalar with equal numbers, or neither is
+ * scalar; otherwise where counts and places are the same, NaN equal to NaN. to_yes: 1 where it holds, else 0.
+ * 1: left.dims or right.dims above 9. 2: a_len not 2^left.dims or b_len not 2^right.dims. */
+THRESHOLM_NODISCARD uint8_t thresholm_eq(const thresholm_shape *left, const thresholm_shape *right, const double *a,
+    size_t a_len, const double *b, size_t b_len, uint8_t *THRESHOLM_RESTRICT to_yes);
 
-/* -1, 0 or 1 for less, equal, greater: on two scalars numeric, NaN greatest; else by count, then by the first place
- * that differs, compared in the same way. It is not transitive: [5] < [0, 1] < [3, 0, 0, 0] < [5].
- * 1: dims or dims_right above 9. 2: a_len not 2^dims or b_len not 2^dims_right. */
-uint8_t thresholm_cmp(uint8_t dims, uint8_t kind, uint8_t p, uint8_t n, uint8_t z,
-    uint8_t dims_right, uint8_t kind_right, uint8_t p_right, uint8_t n_right, uint8_t z_right,
-    const double *a, size_t a_len, const double *b, size_t b_len, int8_t *to_order);
+/* The order: on two scalars numeric, NaN greatest; else by count, then by the first place that differs. Places are
+ * compared as scalars are. It is not transitive: [5] < [0, 1] < [3, 0, 0, 0] < [5]. to_order: -1, 0 or 1 for less,
+ * equal, greater.
+ * 1: left.dims or right.dims above 9. 2: a_len not 2^left.dims or b_len not 2^right.dims. */
+THRESHOLM_NODISCARD uint8_t thresholm_cmp(const thresholm_shape *left, const thresholm_shape *right,
+    const double *a, size_t a_len, const double *b, size_t b_len, int8_t *THRESHOLM_RESTRICT to_order);
 
-/* ---- The rig sheet: little-endian, sections in order, each after its count: u16 shapes (at most 64; each five
- * bytes: dims, kind 0, 1 or 2, then p, n, z, zero unless kind 2), u32 coefficients (at most 4,096, eight bytes each),
- * in shape order. The second count is the sum of the 2^dims. Nothing follows. Coefficients are passed as their bit
- * patterns, so that a NaN's bits are kept. A list of shapes is a slice of bytes, five to a shape. */
+/* ---- The rig sheet. It is little-endian, sections in order, each after its count: u16 shapes (at most 64; each
+ * five bytes: dims, kind 0, 1 or 2, then p, n, z, zero unless kind 2), u32 coefficients (at most 4,096, eight bytes
+ * each), in shape order. The second count is the sum of the 2^dims. Nothing follows. Coefficients are passed as
+ * their bit patterns, so that a NaN's bits are kept. A list of shapes is a slice of bytes, six to a shape, as shapes
+ * are elsewhere: dims, kind, p, n, z, mark. */
 
-/* Reads a sheet. Its patterns go to out; to_count gets how many, to_shapes how many shapes it has. The shapes
- * stand in bytes itself, from byte 2 on, ready for thresholm_value_at and thresholm_write. out: the count of
- * coefficients; THRESHOLM_MAX_COEFFICIENTS is enough.
- * 9: the sheet is malformed; a dimension above 9 and a count over its limit are that too. 3: out_len below the count
- * of coefficients. */
-uint8_t thresholm_read(const uint8_t *bytes, size_t bytes_len, uint64_t *out, size_t out_len, size_t *to_shapes,
-    size_t *to_count);
+/* Reads a sheet: its list of shapes, and the patterns of its coefficients. bytes: the sheet. shapes: six bytes a
+ * shape; THRESHOLM_MAX_SHAPE_BYTES are enough. out: the count of coefficients; THRESHOLM_MAX_COEFFICIENTS are
+ * enough. to_shapes: how many shapes it has. to_count: how many coefficients.
+ * 9: the sheet is malformed; a dimension above 9 and a count over its limit are that too. 3: shapes_len below six
+ * times the number of shapes, or out_len below the count of coefficients. */
+THRESHOLM_NODISCARD uint8_t thresholm_read(const uint8_t *bytes, size_t bytes_len,
+    uint8_t *THRESHOLM_RESTRICT shapes, size_t shapes_len, uint64_t *THRESHOLM_RESTRICT out, size_t out_len,
+    size_t *THRESHOLM_RESTRICT to_shapes, size_t *THRESHOLM_RESTRICT to_count);
 
-/* Writes a sheet: to_count gets its bytes, 6 and five for each shape and eight for each pattern. out: as many, at most
- * 33,094.
- * 1: a listed shape has dimensions above 9, also past the 64th. 2: shapes_len is not a multiple of 5, there are more
+/* Writes a sheet; what was read is written back unchanged. out: its bytes, 6 and five for each shape and eight for
+ * each pattern; THRESHOLM_MAX_SHEET_BYTES are enough. to_count: how many bytes it has.
+ * 1: a listed shape has dimensions above 9, also past the 64th. 2: shapes_len is not a multiple of 6, there are more
  * than 64 shapes or 4,096 patterns, or patterns_len not the sum of the 2^dims. 3: out_len below the bytes. */
-uint8_t thresholm_write(const uint8_t *shapes, size_t shapes_len, const uint64_t *patterns, size_t patterns_len,
-    uint8_t *out, size_t out_len, size_t *to_count);
+THRESHOLM_NODISCARD uint8_t thresholm_write(const uint8_t *shapes, size_t shapes_len, const uint64_t *patterns,
+    size_t patterns_len, uint8_t *THRESHOLM_RESTRICT out, size_t out_len, size_t *THRESHOLM_RESTRICT to_count);
 
-/* The shape of the value at an index of a sheet, 0 being the first, and the place among the patterns at which its own
- * 2^dims start.
- * 1: a listed shape has dimensions above 9, also past the 64th, at every index. 2: shapes_len is not a multiple of 5,
- * or index not below the number of shapes, or not below 64. */
-uint8_t thresholm_value_at(const uint8_t *shapes, size_t shapes_len, size_t index,
-    uint8_t *to_dims, uint8_t *to_kind, uint8_t *to_p, uint8_t *to_n, uint8_t *to_z, size_t *to_start);
+/* The shape of the value at an index of a sheet, and where its patterns start. index: which value, 0 being the
+ * first. to_shape: the value's shape. to_start: the place among the patterns at which its own 2^dims start.
+ * 1: a listed shape has dimensions above 9, also past the 64th, at every index. 2: shapes_len is not a multiple of
+ * 6, or index not below the number of shapes, or not below 64. */
+THRESHOLM_NODISCARD uint8_t thresholm_value_at(const uint8_t *shapes, size_t shapes_len, size_t index,
+    thresholm_shape *THRESHOLM_RESTRICT to_shape, size_t *THRESHOLM_RESTRICT to_start);
 
 /* The numbers of bit patterns, as many; a NaN's pattern gives NaN. out: patterns_len.
  * 3: out_len below patterns_len. */
-uint8_t thresholm_numbers_of(const uint64_t *patterns, size_t patterns_len, double *out, size_t out_len,
-    size_t *to_count);
+THRESHOLM_NODISCARD uint8_t thresholm_numbers_of(const uint64_t *patterns, size_t patterns_len,
+    double *THRESHOLM_RESTRICT out, size_t out_len, size_t *THRESHOLM_RESTRICT to_count);
 
-/* The bit patterns of numbers, as many; NaN has the one pattern 7FF8000000000000. out: numbers_len.
+/* The bit patterns of numbers, as many; NaN has the one pattern 7FF8000000000000. numbers: the numbers. out:
+ * numbers_len.
  * 3: out_len below numbers_len. */
-uint8_t thresholm_patterns_of(const double *numbers, size_t numbers_len, uint64_t *out, size_t out_len,
-    size_t *to_count);
+THRESHOLM_NODISCARD uint8_t thresholm_patterns_of(const double *numbers, size_t numbers_len,
+    uint64_t *THRESHOLM_RESTRICT out, size_t out_len, size_t *THRESHOLM_RESTRICT to_count);
 
 #ifdef __cplusplus
 }
