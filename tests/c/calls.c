@@ -7,7 +7,7 @@
 
 int main(int argc, char **argv) {
     if (argc > 1 && strcmp(argv[1], "wrong") == 0) expect_wrong();
-    group("refusals", refusals);
+    group("the header's own", header);
     group("flavors", flavors);
     group("order", order);
     group("shapes", shapes);
@@ -19,8 +19,10 @@ int main(int argc, char **argv) {
     group("values", values);
     group("compare", compare);
     group("sheet", sheet);
+    group("each kind of flavor", kinds);
     group("nine dimensions", nine);
     group("the bits of NaNs", nan_bits);
+    group("null pointers of length 0", nulls);
     if (argc > 1 && strcmp(argv[1], "numbers") == 0) say_numbers();
     return every_call();
 }

@@ -4,38 +4,45 @@
 #include <stdio.h>
 #include <string.h>
 
+#include "names.h"
+
 #ifdef __cplusplus
 #define LANGUAGE "C++"
 #else
 #define LANGUAGE "C"
 #endif
 
-/* The calls of the header, and those that are never refused. */
-#define CALLS 67
-static const char *const never_refused[] = {
-    "done", "metric", "null_flavor", "added_dims", "promotion", "shape_of", "with_dims", "with_flavor"};
-#define NEVER (sizeof never_refused / sizeof never_refused[0])
-
 /* What got and want are filled with before a call. */
-#define MARK 0xA5
+#define FILL 0xA5
+
+/* How often a group runs, and the bytes that shapes are given with each time. */
+#define ROUNDS 3
+static const uint8_t marks[ROUNDS] = {0, 1, 255}, kinds_of_cl[ROUNDS] = {THRESHOLM_CL, 3, 255}, any[ROUNDS] = {0, 9, 255};
 
 Got got, want;
 const double numbers[ROOM] = {1, 2, 3, 4, 5, 6, 7, 8, 9, 10, 11, 12, 13, 14, 15, 16};
 
-/* The calls that were made, and the last group that made each; bit k of refused says that one was refused with k. */
+/* The calls, and of each: the last group that made it; whether it was done; bit k of kinds says that it was given a shape
+ * of kind k then, and bit k of refused that it was refused with k. What is after the last is for a call that is not among
+ * them. */
+#define NAME(name) #name,
+static const char *const names[] = {THRESHOLM_CALLS(NAME)};
+#define CALLS (sizeof names / sizeof names[0])
 static struct {
-    const char *name, *group;
+    const char *group;
     int done;
-    unsigned refused;
-} made[2 * CALLS];
+    unsigned kinds, refused;
+} made[CALLS + 1];
 static const char *this_group;
-static size_t calls, calls_of_group, answers, failures;
+static size_t this_round, shapes_given, calls_of_group, answers, failures;
+static unsigned kinds_given;
 static int wrong, has_nan_bits;
 
 static void fresh(void) {
-    memset(&got, MARK, sizeof got);
-    memset(&want, MARK, sizeof want);
+    memset(&got, FILL, sizeof got);
+    memset(&want, FILL, sizeof want);
     has_nan_bits = 0;
+    shapes_given = kinds_given = 0;
 }
 
 void with_nan_bits(void) { has_nan_bits = 1; }
@@ -48,35 +55,59 @@ static void spoil(long *expected) {
     else ((unsigned char *)&want)[answers * 7919 % sizeof want] ^= 1;
 }
 
+/* ---- what is given */
+
+uint8_t any_dims(void) { return any[this_round]; }
+
+/* A shape with the bytes of this round where a call must not look at them. */
+static thresholm_shape loosened(thresholm_shape shape) {
+    const uint8_t mark = marks[this_round];
+    kinds_given |= 1u << shape.kind;
+    if (shape.kind == THRESHOLM_CL) shape.kind = kinds_of_cl[this_round];
+    else shape.p = shape.n = shape.z = mark;
+    shape.mark = mark;
+    return shape;
+}
+
+const thresholm_shape *as_it_stands(thresholm_shape shape) {
+    want.given[shapes_given] = got.given[shapes_given] = shape;
+    return &got.given[shapes_given++];
+}
+
+const thresholm_shape *vga(uint8_t dims) { return as_it_stands(loosened(VGA(dims))); }
+
+const thresholm_shape *pga(uint8_t dims) { return as_it_stands(loosened(PGA(dims))); }
+
+const thresholm_shape *cl(uint8_t dims, uint8_t p, uint8_t n, uint8_t z) {
+    return as_it_stands(loosened(CL(dims, p, n, z)));
+}
+
+const uint8_t *list(const uint8_t *shapes, size_t count) {
+    memcpy(got.given_list, shapes, count);
+    for (size_t at = 0; at + sizeof(thresholm_shape) <= count; at += sizeof(thresholm_shape)) {
+        thresholm_shape shape;
+        memcpy(&shape, shapes + at, sizeof shape);
+        shape = loosened(shape);
+        memcpy(got.given_list + at, &shape, sizeof shape);
+    }
+    memcpy(want.given_list, got.given_list, count);
+    return got.given_list;
+}
+
 /* ---- what is expected */
 
-void want_flavor(uint8_t kind, uint8_t p, uint8_t n, uint8_t z) {
-    want.kind = kind;
-    want.p = p;
-    want.n = n;
-    want.z = z;
-}
-
-void want_shape(uint8_t dims, uint8_t kind, uint8_t p, uint8_t n, uint8_t z) {
-    want.dims = dims;
-    want_flavor(kind, p, n, z);
-}
-
-void want_shape_right(uint8_t dims, uint8_t kind, uint8_t p, uint8_t n, uint8_t z) {
-    want.dims_right = dims;
-    want.kind_right = kind;
-    want.p_right = p;
-    want.n_right = n;
-    want.z_right = z;
-}
+void want_shape(thresholm_shape shape) { want.shape = shape; }
 
 void want_out(const double *out, size_t count) { memcpy(want.out, out, count * sizeof *out); }
 
-void want_out_right(const double *out, size_t count) { memcpy(want.out_right, out, count * sizeof *out); }
-
-void want_value(uint8_t dims, uint8_t kind, uint8_t p, uint8_t n, uint8_t z, const double *out, size_t count) {
-    want_shape(dims, kind, p, n, z);
+void want_value(thresholm_shape shape, const double *out, size_t count) {
+    want_shape(shape);
     want_out(out, count);
+}
+
+void want_value_right(thresholm_shape shape, const double *out, size_t count) {
+    want.shape_right = shape;
+    memcpy(want.out_right, out, count * sizeof *out);
 }
 
 void want_list(const double *out, size_t count) {
@@ -101,10 +132,9 @@ void want_patterns(const uint64_t *patterns, size_t count) {
 static const struct {
     const char *name;
     size_t begin;
-} parts[] = {PART(dims),    PART(kind),    PART(p),       PART(n),     PART(z),     PART(dims_right), PART(kind_right),
-             PART(p_right), PART(n_right), PART(z_right), PART(test),  PART(yes),   PART(order),      PART(pairs),
-             PART(shapes),  PART(count),   PART(start),   PART(value), PART(re),    PART(im),         PART(out),
-             PART(out_right), PART(masks), PART(places),  PART(patterns), PART(bytes)};
+} parts[] = {PART(shape), PART(shape_right), PART(test),     PART(yes),   PART(order),  PART(pairs), PART(shapes),
+             PART(count), PART(start),       PART(value),    PART(re),    PART(im),     PART(out),   PART(out_right),
+             PART(masks), PART(places),      PART(patterns), PART(bytes), PART(listed), PART(given), PART(given_list)};
 
 /* NaN is given the one pattern that patterns_of gives it. */
 static void one_nan(double *x, size_t count) {
@@ -131,8 +161,11 @@ static void say_difference(const char *label) {
 
 static size_t index_of(const char *name) {
     size_t i = 0;
-    while (i < calls && strcmp(made[i].name, name) != 0) i++;
-    if (i == calls) made[calls++].name = name;
+    while (i < CALLS && strcmp(names[i], name) != 0) i++;
+    if (i == CALLS) {
+        printf("FAILED: %s: %s is not in names.h\n", LANGUAGE, name);
+        failures++;
+    }
     if (made[i].group != this_group) calls_of_group++;
     made[i].group = this_group;
     return i;
@@ -140,7 +173,7 @@ static size_t index_of(const char *name) {
 
 static void judge(const char *name, const char *file, int line, long expected, long returned) {
     char label[200];
-    snprintf(label, sizeof label, "%s: thresholm_%s (%s, line %d)", LANGUAGE, name, file, line);
+    snprintf(label, sizeof label, "%s: thresholm_%s (%s, line %d, mark %d)", LANGUAGE, name, file, line, marks[this_round]);
     if (!has_nan_bits) one_nan_in(&got);
     if (!has_nan_bits) one_nan_in(&want);
     if (wrong) spoil(&expected);
@@ -156,16 +189,22 @@ static void judge(const char *name, const char *file, int line, long expected, l
 }
 
 void answered(const char *name, const char *file, int line, long expected, long returned) {
-    size_t i = index_of(name);
-    if (expected == 0) made[i].done = 1;
-    else made[i].refused |= 1u << expected;
-    judge(name, file, line, expected, returned);
+    if (expected == 0) {
+        gave(name, file, line, expected, returned);
+    } else {
+        made[index_of(name)].refused |= 1u << expected;
+        judge(name, file, line, expected, returned);
+    }
 }
 
 void gave(const char *name, const char *file, int line, long expected, long returned) {
-    made[index_of(name)].done = 1;
+    size_t i = index_of(name);
+    made[i].done = 1;
+    made[i].kinds |= kinds_given;
     judge(name, file, line, expected, returned);
 }
+
+void held(const char *name, const char *file, int line, int condition) { judge(name, file, line, 1, condition != 0); }
 
 /* ---- what is said */
 
@@ -173,42 +212,40 @@ void group(const char *name, void (*run)(void)) {
     size_t answers_before = answers, failures_before = failures;
     this_group = name;
     calls_of_group = 0;
-    fresh();
-    run();
+    for (this_round = 0; this_round < ROUNDS; this_round++) {
+        fresh();
+        run();
+    }
     if (failures == failures_before)
         printf("ok: %s: %s: %zu calls, %zu answers\n", LANGUAGE, name, calls_of_group, answers - answers_before);
 }
 
 void say_numbers(void) {
-    for (size_t i = 0; i < calls; i++) {
-        printf("thresholm_%s", made[i].name);
+    for (size_t i = 0; i < CALLS; i++) {
+        printf("thresholm_%s", names[i]);
         for (int k = 1; k <= THRESHOLM_MALFORMED; k++)
             if (made[i].refused >> k & 1) printf(" %d", k);
         printf("\n");
     }
 }
 
-static int is_never_refused(const char *name) {
-    for (size_t i = 0; i < NEVER; i++)
-        if (strcmp(never_refused[i], name) == 0) return 1;
-    return 0;
+static void must(int condition, const char *name, const char *what) {
+    if (condition) return;
+    printf("FAILED: %s: no test has thresholm_%s %s\n", LANGUAGE, name, what);
+    failures++;
 }
 
-/* Every call must have been done, and refused where it can be. */
+/* Every call must have been done, and with each kind of flavor where it is given a shape. The numbers that it was refused
+ * with are held against the header, by run. */
 int every_call(void) {
+    const unsigned each = 1u << THRESHOLM_VANILLA | 1u << THRESHOLM_PROJECTIVE | 1u << THRESHOLM_CL;
     size_t refused = 0;
-    for (size_t i = 0; i < calls; i++) {
+    for (size_t i = 0; i < CALLS; i++) {
         refused += made[i].refused != 0;
-        if (!made[i].done || (!made[i].refused && !is_never_refused(made[i].name))) {
-            printf("FAILED: %s: thresholm_%s was not both done and refused\n", LANGUAGE, made[i].name);
-            failures++;
-        }
-    }
-    if (calls != CALLS || refused != CALLS - NEVER) {
-        printf("FAILED: %s: %zu calls were made and %zu of them refused\n", LANGUAGE, calls, refused);
-        failures++;
+        must(made[i].done, names[i], "done");
+        must(made[i].kinds == 0 || made[i].kinds == each, names[i], "done with each kind of flavor");
     }
     if (failures == 0)
-        printf("ok: %s: all %zu calls, %zu of them refused too: %zu answers\n", LANGUAGE, calls, refused, answers);
+        printf("ok: %s: all %zu calls, %zu of them refused too: %zu answers\n", LANGUAGE, CALLS, refused, answers);
     return failures != 0;
 }
