@@ -3,6 +3,7 @@ use crate::error::Error;
 use crate::flavor::Flavor;
 use crate::lent;
 use crate::multivector::{Multivector, made};
+use crate::shape::Shape;
 
 /// Values from few numbers.
 impl Multivector {
@@ -31,12 +32,12 @@ impl Multivector {
     /// # Ok::<(), thresholm::Error>(())
     /// ```
     pub fn scalar(dims: u8, x: f64, flavor: Flavor) -> Result<Multivector, Error> {
-        made(dims.saturating_add(1), |out| lent::scalar(dims, x, flavor, out))
+        made(dims.saturating_add(1), |out| lent::scalar(Shape::new(dims, flavor), x, out))
     }
 
     /// A value whose last place is x. Under Projective it has one dimension more than is stated. Refused with [`Error::TooManyDims`].
     pub fn pseudoscalar(dims: u8, x: f64, flavor: Flavor) -> Result<Multivector, Error> {
-        made(dims.saturating_add(1), |out| lent::pseudoscalar(dims, x, flavor, out))
+        made(dims.saturating_add(1), |out| lent::pseudoscalar(Shape::new(dims, flavor), x, out))
     }
 
     /// A value from a packing of its numbers: a full set, which becomes Vanilla whatever flavor is given; half of them, which are the even grades; or
@@ -49,12 +50,12 @@ impl Multivector {
     /// # Ok::<(), thresholm::Error>(())
     /// ```
     pub fn blades_left(dims: u8, v: &[f64], flavor: Flavor) -> Result<Multivector, Error> {
-        made(dims, |out| lent::blades_left(dims, v, flavor, out))
+        made(dims, |out| lent::blades_left(Shape::new(dims, flavor), v, out))
     }
 
     /// The same from the right: half of the numbers are the odd grades, and the first grade of that size is sought in the right half.
     pub fn blades_right(dims: u8, v: &[f64], flavor: Flavor) -> Result<Multivector, Error> {
-        made(dims, |out| lent::blades_right(dims, v, flavor, out))
+        made(dims, |out| lent::blades_right(Shape::new(dims, flavor), v, out))
     }
 }
 

@@ -89,8 +89,9 @@ impl Error {
 }
 
 impl fmt::Display for Error {
+    /// A sentence for people. Width, fill and alignment are those of any text.
     fn fmt(&self, f: &mut fmt::Formatter<'_>) -> fmt::Result {
-        f.write_str(match self {
+        f.pad(match self {
             Error::TooManyDims => "a value here or in the result would have more than 9 dimensions",
             Error::WrongCount => {
                 "a count does not fit: a value of d dimensions has 2^d numbers and a sheet at most 64 values and 4096 numbers, no packing has that many, or there is no such value"

@@ -4,7 +4,8 @@
 //! result. Every number here is worked out by the proved code; this crate owns memory, gives names and prints.
 //!
 //! - [`Multivector`]: a value, with its [`Shape`] (dimensions 0 to 9 and a [`Flavor`]) and its 2^d numbers.
-//! - [`Sheet`]: the rig sheet, values as bytes, in which even the bits of a NaN are kept.
+//! - [`Sheet`]: the rig sheet, values as bytes, in which even the bits of a NaN are kept; [`rig`] reads and writes it as text.
+//! - [`bound`]: what is guaranteed for the numbers of a product.
 //! - [`Error`]: why a call was refused, one variant for each refusal number.
 //! - [`lent`]: the same calls on the caller's slices, for callers that own their memory.
 //!
@@ -29,40 +30,58 @@
 //! The operators give a `Result`, and so do the methods that can be refused. Whether two values can be multiplied depends on their dimensions and
 //! even on their numbers, which come from a measured rig and not from the program; so a refusal is no fault of the caller, and a panic at night
 //! would cost a run of stems. `?` keeps expressions short: `((&a * &b)? + &c)?`. Methods that no value can be refused by (negation, the reverses,
-//! the duals, …) give their result plainly. Nothing in this crate panics on any input.
+//! the duals, …) give their result plainly. Nothing in this crate panics on any input; the first call panics where the archive that was linked is
+//! of another version than the crate, which is a fault of the build.
 //!
 //! # No `==`
 //!
 //! The workstation's own `==` says that any two values that are not scalar are equal, and its order is not transitive. Under Rust's operators they
 //! would mislead every reader, so `PartialEq` and `PartialOrd` are left out, and both stand under honest names:
-//! [`Multivector::rust_eq`] and [`Multivector::rust_cmp`]. [`Multivector::same_bits`] compares shapes and every bit.
+//! [`Multivector::workstation_eq`] and [`Multivector::workstation_cmp`]. [`Multivector::same_bits`] compares shapes and every bit.
 #![deny(missing_docs)]
 #![deny(unsafe_code)]
 #![deny(unsafe_op_in_unsafe_fn)]
 
-mod compare;
-mod construct;
+// The modules stand in layers: one uses those of the groups above its own, and none that uses it. tests/layers.rs sees to it.
+// Plain types, which make no calls.
 mod error;
 mod flavor;
+mod shape;
+
+// The calls. Both are written by tools/calls.
 #[allow(unsafe_code)]
 pub mod lent;
+#[allow(unsafe_code)]
+mod sys;
+
+// What is asked of flavors and shapes, and values.
+mod metric;
 mod multivector;
+mod order;
+mod text;
+
+// What is asked of values, and sheets of them.
+mod compare;
+mod construct;
 mod operators;
 mod print;
 mod products;
-mod shape;
 mod sheet;
-#[allow(unsafe_code)]
-mod sys;
 mod unpack;
 mod values;
+
+// What is made of all this.
+pub mod bound;
+pub mod rig;
 
 pub use error::Error;
 pub use flavor::Flavor;
 pub use multivector::Multivector;
+pub use order::Order;
 pub use products::Product;
-pub use shape::{MAX_BLADES, MAX_DIMS, Order, Shape};
-pub use sheet::{MAX_PATTERNS, MAX_SHAPES, Sheet};
+pub use shape::{MAX_BLADES, MAX_DIMS, Shape};
+pub use sheet::{MAX_PATTERNS, MAX_SHAPES, Sheet, Values};
+pub use text::ParseShapeError;
 pub use values::ScalarTest;
 
 /// The example of README.md, so that it runs as a test.

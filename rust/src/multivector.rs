@@ -25,8 +25,11 @@ impl Multivector {
     /// A value of a shape and its numbers. Refused with [`Error::TooManyDims`], and with [`Error::WrongCount`] unless there are 2^d numbers.
     pub fn new(shape: Shape, numbers: impl Into<Vec<f64>>) -> Result<Multivector, Error> {
         let numbers = numbers.into();
-        lent::value_refusal(shape.dims, numbers.len())?;
-        Ok(Multivector { shape, numbers })
+        if lent::blade_count(shape.dims())? == numbers.len() {
+            Ok(Multivector { shape, numbers })
+        } else {
+            Err(Error::WrongCount)
+        }
     }
 
     /// The shape.
@@ -38,13 +41,13 @@ impl Multivector {
     /// The dimensions, 0 to 9.
     #[must_use]
     pub fn dims(&self) -> u8 {
-        self.shape.dims
+        self.shape.dims()
     }
 
     /// The flavor.
     #[must_use]
     pub fn flavor(&self) -> Flavor {
-        self.shape.flavor
+        self.shape.flavor()
     }
 
     /// The 2^d numbers.
@@ -89,7 +92,8 @@ impl Multivector {
     /// # Ok::<(), Error>(())
     /// ```
     pub fn grade(&self, grade: u8) -> Result<&[f64], Error> {
-        lent::grade(self.shape, grade, &self.numbers)
+        let (start, count) = lent::grade(self.shape, grade, &self.numbers)?;
+        Ok(self.numbers.get(start..).and_then(|rest| rest.get(..count)).unwrap_or_default())
     }
 
     /// The value at other dimensions: grown with zeros, or without the blades that are outside. Growing from 3, and shrinking to 3, turns the sign of e31, since
@@ -106,32 +110,81 @@ impl Multivector {
     /// assert_eq!(v.set_flavor(Flavor::Projective)?.grade(1)?, [0.0, 4.0, 5.0]);
     /// # Ok::<(), thresholm::Error>(())
     /// ```
+    ///
+    /// # The sign of e31
+    ///
+    /// **A Vanilla value of 3 dimensions with a number at e31 comes out with the other sign there when it is promoted.** Promotion keeps every
+    /// number, as the workstation does; but at 3 dimensions alone the place of that number means e31, and the place that it goes to means e13. Until
+    /// promotion turns the sign by itself, turn it first.
+    ///
+    /// ```
+    /// use thresholm::{Flavor, Multivector, Shape};
+    /// let e31 = Multivector::new(Shape::new(3, Flavor::Vanilla), [0.0, 0.0, 0.0, 0.0, 0.0, 1.0, 0.0, 0.0])?;
+    /// assert_eq!(e31.to_string(), "e₃₁");
+    /// // e13, and not e31, which is -e13.
+    /// assert_eq!(e31.set_flavor(Flavor::Projective)?.to_string(), "e₁₃");
+    ///
+    /// // The same blade, by its mask, with its sign turned before.
+    /// let turned = e31.set_blade(0b101, -e31.get_blade(0b101))?;
+    /// assert_eq!(turned.set_flavor(Flavor::Projective)?.to_string(), "¯e₁₃");
+    /// # Ok::<(), thresholm::Error>(())
+    /// ```
     pub fn set_flavor(&self, new_flavor: Flavor) -> Result<Multivector, Error> {
         let dims = self.shape.met_dims(Shape::new(0, new_flavor));
         made(dims, |out| lent::set_flavor(self.shape, new_flavor, &self.numbers, out))
     }
 
-    /// The value promoted and grown to another's shape, as `*` and `+` by a scalar do it. Refused with [`Error::TooManyDims`].
+    /// The value promoted and grown to another's shape, as `*` and `+` by a scalar do it. A Vanilla value of 3 dimensions with a number at e31 comes
+    /// out with the other sign there when it is promoted to Projective: see [`Multivector::set_flavor`]. Refused with [`Error::TooManyDims`].
+    ///
+    /// ```
+    /// use thresholm::{Flavor, Multivector, Shape};
+    /// let e31 = Multivector::new(Shape::new(3, Flavor::Vanilla), [0.0, 0.0, 0.0, 0.0, 0.0, 1.0, 0.0, 0.0])?;
+    /// assert_eq!(e31.conform_to(Shape::new(4, Flavor::Projective))?.to_string(), "e₁₃");
+    /// # Ok::<(), thresholm::Error>(())
+    /// ```
     pub fn conform_to(&self, other: Shape) -> Result<Multivector, Error> {
         made(self.shape.met_dims(other), |out| lent::conform_to(self.shape, other, &self.numbers, out))
     }
 
-    /// Both values at the flavor and the dimensions that they meet in. Refused with [`Error::TooManyDims`].
+    /// Both values at the flavor and the dimensions that they meet in. A Vanilla value of 3 dimensions with a number at e31 comes out with the other
+    /// sign there when it is promoted to Projective: see [`Multivector::set_flavor`]. Refused with [`Error::TooManyDims`].
+    ///
+    /// ```
+    /// use thresholm::{Flavor, Multivector, Shape};
+    /// let e31 = Multivector::new(Shape::new(3, Flavor::Vanilla), [0.0, 0.0, 0.0, 0.0, 0.0, 1.0, 0.0, 0.0])?;
+    /// let e0 = Multivector::vector(&[1.0, 0.0, 0.0, 0.0], Flavor::Projective)?;
+    /// let (left, right) = e31.conform(&e0)?;
+    /// assert_eq!((left.to_string(), right.to_string()), ("e₁₃".into(), "e₀".into()));
+    /// # Ok::<(), thresholm::Error>(())
+    /// ```
     pub fn conform(&self, other: &Multivector) -> Result<(Multivector, Multivector), Error> {
         let dims = self.shape.met_dims(other.shape);
         let mut out_right = vec![0.0; room(dims)];
         let (value, right) = made_with(dims, |out| {
             lent::conform(self.shape, other.shape, &self.numbers, &other.numbers, out, &mut out_right)
         })?;
-        out_right.truncate(room(right.dims));
+        out_right.truncate(room(right.dims()));
         Ok((value, Multivector { shape: right, numbers: out_right }))
     }
 
-    /// What a call gives that keeps the shape and that no value can be refused by. Were it refused, the NaNs of the output would stay.
+    /// What a call gives that keeps the shape and that no value can be refused by.
     pub(crate) fn kept(&self, call: impl FnOnce(Shape, &[f64], &mut [f64]) -> Result<Shape, Error>) -> Multivector {
-        let mut numbers = vec![f64::NAN; self.numbers.len()];
-        let shape = call(self.shape, &self.numbers, &mut numbers).unwrap_or(self.shape);
+        Multivector::written(self.shape, |out| call(self.shape, &self.numbers, out))
+    }
+
+    /// A value of at most 9 dimensions whose numbers are written by a call that cannot be refused. Were it refused, the NaNs of the output would stay.
+    pub(crate) fn written(shape: Shape, call: impl FnOnce(&mut [f64]) -> Result<Shape, Error>) -> Multivector {
+        let mut numbers = vec![f64::NAN; room(shape.dims())];
+        let shape = call(&mut numbers).unwrap_or(shape);
         Multivector { shape, numbers }
+    }
+}
+
+/// The numbers.
+impl AsRef<[f64]> for Multivector {
+    fn as_ref(&self) -> &[f64] {
+        &self.numbers
     }
 }
 
@@ -148,6 +201,6 @@ pub(crate) fn made_with<T>(
 ) -> Result<(Multivector, T), Error> {
     let mut numbers = vec![0.0; room(dims)];
     let (shape, beside) = call(&mut numbers)?;
-    numbers.truncate(room(shape.dims));
+    numbers.truncate(room(shape.dims()));
     Ok((Multivector { shape, numbers }, beside))
 }

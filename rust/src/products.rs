@@ -5,6 +5,7 @@ use crate::multivector::{Multivector, made_with};
 
 /// A product, and how many pairs of blades contributed to it.
 #[derive(Clone, Debug)]
+#[non_exhaustive]
 pub struct Product {
     /// The value.
     pub value: Multivector,
@@ -24,11 +25,12 @@ macro_rules! product {
     };
 }
 
-/// The five products. Each conforms both values, multiplies, and snaps every number that is within 1e-14 of a whole one. They are refused with
-/// [`Error::TooManyDims`] where the values would meet in more than 9 dimensions.
+/// The five products. Each conforms both values (see [`Multivector::conform`], also for the sign of e31), multiplies, and snaps every number that is within
+/// 1e-14 of a whole one. They are refused with [`Error::TooManyDims`] where the values would meet in more than 9 dimensions.
 impl Multivector {
     product! {
-        /// The general product: all pairs of blades.
+        /// The general product: all pairs of blades. A Vanilla value that meets a Projective one is promoted first: see [`Multivector::set_flavor`] for
+        /// the sign of e31.
         ///
         /// ```
         /// use thresholm::{Flavor, Multivector};

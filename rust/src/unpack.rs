@@ -2,7 +2,7 @@
 use crate::error::Error;
 use crate::lent;
 use crate::multivector::Multivector;
-use crate::shape::room;
+use crate::shape::{Shape, room};
 
 /// Some numbers of a value, by mask. No sign is adjusted.
 impl Multivector {
@@ -54,7 +54,7 @@ impl Multivector {
     }
 
     /// What a call gives at the value's own dimensions, which no value can be refused by.
-    fn own(&self, call: impl FnOnce(crate::Shape, &[f64], &mut [f64]) -> Result<usize, Error>) -> Vec<f64> {
+    fn own(&self, call: impl FnOnce(Shape, &[f64], &mut [f64]) -> Result<usize, Error>) -> Vec<f64> {
         taken(self.dims(), |out| call(self.shape(), self.numbers(), out)).unwrap_or_default()
     }
 }

@@ -50,13 +50,30 @@ impl Multivector {
         self.met(other, lent::regressive_product)
     }
 
-    /// The inverse; where there is none, NaN at place 0 and zeros. Refused with [`Error::Planar`].
+    /// The inverse, by the workstation's formula: with s the number at place 0 and x the rest, (s - x) / (s s - x x). Refused with
+    /// [`Error::Planar`].
+    ///
+    /// **NaN at place 0 where x squared is not scalar**, and zeros after it. So it is for a screw, a turn with a slide along its axis: it has an inverse, which
+    /// this formula does not find. The way back from a unit move, one that gives 1 times its reverse, is its [`Multivector::reverse`].
+    ///
+    /// ```
+    /// use thresholm::{Flavor, Multivector};
+    /// // A turn in the plane e12, and a slide along its axis.
+    /// let turn = Multivector::scalar(3, 0.6, Flavor::Projective)?.set_blade(0b0110, 0.8)?;
+    /// let slide = Multivector::scalar(3, 1.0, Flavor::Projective)?.set_blade(0b1001, 2.5)?;
+    /// let screw = (turn * slide)?;
+    /// assert_eq!(screw.to_string(), "0.6 + 1.5e₀₃ + 0.8e₁₂ + 2e₀₁₂₃");
+    ///
+    /// assert!(screw.inverted()?.numbers()[0].is_nan());
+    /// assert_eq!((&screw * screw.reverse())?.to_string(), "1");
+    /// # Ok::<(), thresholm::Error>(())
+    /// ```
     pub fn inverted(&self) -> Result<Multivector, Error> {
         made(self.dims(), |out| lent::inverted(self.shape(), self.numbers(), out))
     }
 
-    /// A whole power. Under Projective every power but 1, 2, -1 and -2 has one dimension more. Refused with [`Error::TooManyDims`],
-    /// [`Error::Planar`] for a power below 0, and [`Error::LeastPower`].
+    /// A whole power; one below 0 is that of the inverse ([`Multivector::inverted`]). Under Projective every power but 1, 2, -1 and -2 has one
+    /// dimension more. Refused with [`Error::TooManyDims`], [`Error::Planar`] for a power below 0, and [`Error::LeastPower`].
     ///
     /// ```
     /// use thresholm::{Flavor, Multivector};
@@ -92,7 +109,11 @@ impl Multivector {
     /// ```
     #[must_use]
     pub fn scalar_test(&self) -> ScalarTest {
-        lent::scalar_test(self.shape(), self.numbers()).unwrap_or(ScalarTest::Neither)
+        match lent::scalar_test(self.shape(), self.numbers()) {
+            Ok((0, re, _)) => ScalarTest::Scalar(re),
+            Ok((1, re, im)) => ScalarTest::Planar { re, im },
+            _ => ScalarTest::Neither,
+        }
     }
 
     /// The value without its scalar (+0 at place 0), and the scalar.

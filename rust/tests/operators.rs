@@ -49,6 +49,51 @@ fn numbers_on_the_right() {
 }
 
 #[test]
+fn numbers_on_the_left() {
+    let a = value([1.0, -0.0, f64::INFINITY, 0.1]);
+    // The sign of a NaN is the processor's.
+    let same = |(x, y): (&f64, &f64)| x.to_bits() == y.to_bits() || x.is_nan() && y.is_nan();
+    for f in [2.0, 1.0, -1.0, 0.0, 0.3, f64::INFINITY, 5e-324] {
+        for product in [f * &a, f * a.clone()] {
+            let (left, right) = (product.unwrap(), (&a * f).unwrap());
+            assert_eq!(left.shape(), a.shape());
+            assert!(left.numbers().iter().zip(right.numbers()).all(same));
+        }
+    }
+    // No snap, unlike in the product with a value of that number.
+    let small = 2f64.powi(-47);
+    assert_eq!((small * value([1.0; 4])).unwrap().numbers(), [small; 4]);
+    let number = value([small, 0.0, 0.0, 0.0]);
+    assert_eq!((number * value([1.0; 4])).unwrap().numbers(), [0.0; 4]);
+}
+
+#[test]
+fn products_of_slices() {
+    let (a, b, c) = (value([1.0, 2.0, 3.0, 4.0]), value([5.0, 6.0, 7.0, 8.0]), value([0.5, 0.0, -1.0, 2.5]));
+    let all = ((&a * &b).unwrap() * &c).unwrap();
+    assert!(Multivector::product_of(&[&a, &b, &c]).unwrap().same_bits(&all));
+    let wrong = ((&c * &b).unwrap() * &a).unwrap();
+    assert!(!all.same_bits(&wrong));
+    assert!(Multivector::product_of(&[a, b, c]).unwrap().same_bits(&all));
+    // One value is not multiplied, so that it does not snap; no value gives the number 1.
+    let one = value([1e-15, -0.0, f64::INFINITY, 1.0]);
+    assert!(Multivector::product_of(&[&one]).unwrap().same_bits(&one));
+    let none = Multivector::product_of::<Multivector>(&[]).unwrap();
+    assert_eq!((none.shape(), none.numbers()), (Shape::new(0, Flavor::Vanilla), &[1.0][..]));
+    let nine = Multivector::vector(&[1.0; 9], Flavor::Vanilla).unwrap();
+    let point = Multivector::vector(&[1.0], Flavor::Projective).unwrap();
+    assert_eq!(Multivector::product_of(&[&one, &nine, &point]).map(drop), Err(Error::TooManyDims));
+}
+
+#[test]
+fn numbers_are_lent() {
+    fn sum(numbers: impl AsRef<[f64]>) -> f64 {
+        numbers.as_ref().iter().sum()
+    }
+    assert_eq!(sum(value([1.0, 2.0, 3.0, 4.0])), 10.0);
+}
+
+#[test]
 fn expressions_stay_short() -> Result<(), Error> {
     let (a, b) = (value([1.0, 2.0, 3.0, 4.0]), value([5.0, 6.0, 7.0, 8.0]));
     let mixed = (((&a * &b)? + &a)? - 1.0)?;

@@ -44,7 +44,7 @@ fn wrong_counts() {
     let sheet = Sheet::new([PLANE], [0; 4]).unwrap();
     assert_eq!(sheet.value(1).map(drop), refused);
     assert_eq!(sheet.value(usize::MAX).map(drop), refused);
-    assert_eq!(lent::value_at(&[0; 4], 0), Err(Error::WrongCount));
+    assert_eq!(lent::value_at(&[0; 5], 0), Err(Error::WrongCount));
 }
 
 #[test]
@@ -97,9 +97,9 @@ fn a_refused_call_leaves_its_outputs_alone() {
     assert_eq!(lent::conform(nine, point, &a, &b, &mut out, &mut right), Err(refused));
     assert_eq!(lent::take_scalar(PLANE, &a, &mut out), Err(Error::WrongCount));
     assert!(out.iter().all(|&x| x == 7.0) && right.iter().all(|&x| x == 8.0));
-    let mut patterns = [9; 4];
-    assert_eq!(lent::read(&[1, 2, 3], &mut patterns), Err(Error::Malformed));
-    assert_eq!(patterns, [9; 4]);
+    let (mut shapes, mut patterns) = ([8; 6], [9; 4]);
+    assert_eq!(lent::read(&[1, 2, 3], &mut shapes, &mut patterns), Err(Error::Malformed));
+    assert_eq!((shapes, patterns), ([8; 6], [9; 4]));
 }
 
 #[test]
@@ -118,7 +118,6 @@ fn numbers_and_sentences() {
     for (i, error) in Error::ALL.into_iter().enumerate() {
         assert_eq!(usize::from(error.number()), i + 1);
         assert_eq!(Error::from_number(error.number()), Some(error));
-        assert_eq!(lent::refused(error), Err(error));
     }
     let known = (0..=255).filter_map(Error::from_number).count();
     assert_eq!(known, 9);
@@ -127,4 +126,29 @@ fn numbers_and_sentences() {
     assert!(sentences.iter().all(|sentence| sentence.len() > 20));
     let boxed: Box<dyn std::error::Error> = Box::new(Error::Planar);
     assert_eq!(boxed.to_string(), Error::Planar.to_string());
+}
+
+/// The refusals of the table of calls: number, name in Rust, and sentence.
+fn refusals_of(table: &str) -> Vec<(u8, String, String)> {
+    let mut refusals = Vec::new();
+    let mut lines = table.lines().peekable();
+    while let Some(line) = lines.next() {
+        let Some((number, names)) = line.strip_prefix("refusal ").and_then(|rest| rest.split_once(' ')) else {
+            continue;
+        };
+        let name = names.split(':').next().and_then(|names| names.split_once(", ")).map(|(_, name)| name);
+        let mut words = Vec::new();
+        while let Some(more) = lines.next_if(|line| line.starts_with("  ")) {
+            words.push(more.trim());
+        }
+        refusals.extend(name.map(|name| (number.parse().unwrap(), name.to_string(), words.join(" "))));
+    }
+    refusals
+}
+
+#[test]
+fn errors_are_those_of_the_table_of_calls() {
+    let told = refusals_of(include_str!("../../calls.txt"));
+    let errors = Error::ALL.map(|error| (error.number(), format!("{error:?}"), error.to_string()));
+    assert_eq!(told, errors);
 }

@@ -73,13 +73,13 @@ fn packings_and_changes_of_shape() {
 #[test]
 fn equality_and_order() {
     let (e1, e2) = (vanilla([0.0, 1.0, 0.0, 0.0]), vanilla([0.0, 0.0, 1.0, 0.0]));
-    assert!(e1.rust_eq(&e2));
-    assert_eq!(e1.rust_cmp(&e2), Ordering::Greater);
-    assert!(!vanilla([5.0]).rust_eq(&vanilla([3.0])));
+    assert!(e1.workstation_eq(&e2));
+    assert_eq!(e1.workstation_cmp(&e2), Ordering::Greater);
+    assert!(!vanilla([5.0]).workstation_eq(&vanilla([3.0])));
     // The order is not transitive.
     let ring = [vanilla([5.0]), Multivector::vector(&[1.0], Flavor::Vanilla).unwrap(), vanilla([3.0, 0.0, 0.0, 0.0])];
     for i in 0..3 {
-        assert_eq!(ring[i].rust_cmp(&ring[(i + 1) % 3]), Ordering::Less);
+        assert_eq!(ring[i].workstation_cmp(&ring[(i + 1) % 3]), Ordering::Less);
     }
 }
 
