@@ -151,10 +151,11 @@ fn few_numbers() {
             let flavor = draw.flavor();
             same(Multivector::vector(&v, flavor), |out| lent::vector(&v, flavor, out));
             same(Multivector::n_1_blades(&v, flavor), |out| lent::n_1_blades(&v, flavor, out));
-            same(Multivector::blades_left(dims, &v, flavor), |out| lent::blades_left(dims, &v, flavor, out));
-            same(Multivector::blades_right(dims, &v, flavor), |out| lent::blades_right(dims, &v, flavor, out));
-            same(Multivector::scalar(dims, 2.5, flavor), |out| lent::scalar(dims, 2.5, flavor, out));
-            same(Multivector::pseudoscalar(dims, 2.5, flavor), |out| lent::pseudoscalar(dims, 2.5, flavor, out));
+            let shape = Shape::new(dims, flavor);
+            same(Multivector::blades_left(dims, &v, flavor), |out| lent::blades_left(shape, &v, out));
+            same(Multivector::blades_right(dims, &v, flavor), |out| lent::blades_right(shape, &v, out));
+            same(Multivector::scalar(dims, 2.5, flavor), |out| lent::scalar(shape, 2.5, out));
+            same(Multivector::pseudoscalar(dims, 2.5, flavor), |out| lent::pseudoscalar(shape, 2.5, out));
         }
     }
 }

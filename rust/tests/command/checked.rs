@@ -45,6 +45,22 @@ fn what_is_wrong_is_told_by_every_subcommand() {
     );
 }
 
+#[test]
+fn a_text_is_not_taken_for_a_sheet() {
+    let folder = folder("text");
+    let hint = "(this is a text: thresholm import makes a rig sheet of one)\n";
+    let text = file(&folder, "room.txt", "# é\r\nmic: 0 VGA\n\t1".as_bytes());
+    for arguments in [&["check", &text][..], &["show", &text], &["product", &text, "0", "0"]] {
+        let message = run(arguments).refused();
+        assert!(message.starts_with(&format!("{text}: the number that starts at byte 0: ")), "{message}");
+        assert!(message.ends_with(hint), "{message}");
+    }
+    for bytes in [&b""[..], b"mic\x00", b"mic: 0 VGA # caf\xE9"] {
+        let other = file(&folder, "other", bytes);
+        assert!(!run(&["check", &other]).refused().contains(hint));
+    }
+}
+
 #[cfg(unix)]
 #[test]
 fn an_endless_file_is_refused() {

@@ -43,11 +43,11 @@ fn printed(out: &str) -> Vec<Printed> {
 
 /// The name of a mask's blade.
 fn name(shape: Shape, mask: usize) -> String {
-    let first = usize::from(shape.flavor.metric(0) != 0);
+    let first = usize::from(shape.flavor().metric(0) != 0);
     let digits: Vec<String> = (0..9).filter(|i| mask >> i & 1 == 1).map(|i| (i + first).to_string()).collect();
     match digits.len() {
         0 => "1".to_string(),
-        2 if shape.dims == 3 && mask == 0b101 => format!("e{}{}", digits[1], digits[0]),
+        2 if shape.dims() == 3 && mask == 0b101 => format!("e{}{}", digits[1], digits[0]),
         _ => format!("e{}", digits.concat()),
     }
 }
@@ -87,7 +87,7 @@ impl Tally {
         let sums = if finite { sums(shape, a, b) } else { vec![Sum::default(); a.len()] };
         let pairs: u64 = sums.iter().map(|sum| sum.pairs).sum();
         assert!(!finite || step.pairs == pairs.to_string(), "{pairs} pairs, and printed are {}", step.pairs);
-        for ((mask, sum), x) in masks(shape.dims).iter().zip(&sums).zip(result) {
+        for ((mask, sum), x) in masks(shape.dims()).iter().zip(&sums).zip(result) {
             let (number, verdict) = match step.named.get(&name(shape, *mask)) {
                 Some((number, verdict)) => (&**number, &**verdict),
                 None => ("0", step.others.as_deref().expect("a shared line")),

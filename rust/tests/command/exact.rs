@@ -98,6 +98,7 @@ fn square(flavor: Flavor, i: u8) -> i32 {
             }
         }
         Flavor::Cl(..) => 0,
+        _ => unreachable!("there are three flavors"),
     }
 }
 
@@ -109,13 +110,13 @@ fn vectors(dims: u8, mask: usize) -> Vec<u8> {
 
 /// The metric of two masks: their basis vectors one after the other, neighbours exchanged until they stand as the result's place has them.
 pub fn metric(shape: Shape, a: usize, b: usize) -> i32 {
-    let wanted = vectors(shape.dims, a ^ b);
+    let wanted = vectors(shape.dims(), a ^ b);
     let rank = |i: u8| wanted.iter().position(|w| *w == i).unwrap_or(wanted.len() + usize::from(i));
-    let mut word = [vectors(shape.dims, a), vectors(shape.dims, b)].concat();
+    let mut word = [vectors(shape.dims(), a), vectors(shape.dims(), b)].concat();
     let mut metric = 1;
     while let Some(at) = (1..word.len()).find(|at| rank(word[at - 1]) >= rank(word[*at])) {
         if word[at - 1] == word[at] {
-            metric *= square(shape.flavor, word[at]);
+            metric *= square(shape.flavor(), word[at]);
             word.drain(at - 1..=at);
         } else {
             metric = -metric;
@@ -143,7 +144,7 @@ pub struct Sum {
 
 /// The sums of every coefficient, in the order of places.
 pub fn sums(shape: Shape, a: &[f64], b: &[f64]) -> Vec<Sum> {
-    let masks = masks(shape.dims);
+    let masks = masks(shape.dims());
     let [a, b] = [a, b].map(|list| list.iter().map(|x| Int::of_number(*x, HALF)).collect::<Vec<_>>());
     let mut sums = vec![Sum::default(); masks.len()];
     for (i, x) in masks.iter().zip(&a) {

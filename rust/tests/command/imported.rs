@@ -1,5 +1,5 @@
 //! `thresholm import`: what is read, and where faults are reported.
-use crate::support::{file, folder, run};
+use crate::support::{file, folder, run, sheet};
 use std::fs;
 use std::path::Path;
 use thresholm::{Flavor, Shape, Sheet};
@@ -44,6 +44,14 @@ fn both_forms_are_read() {
 fn an_empty_text_is_an_empty_sheet() {
     assert_eq!(imported("empty", "# nothing here\n\n").to_bytes(), Ok(vec![0; 6]));
     assert!(imported("nothing", "").is_empty());
+}
+
+#[test]
+fn a_sheet_is_not_taken_for_a_text() {
+    let folder = folder("sheet-for-text");
+    let bytes = sheet(&[Shape::default()], &[1f64.to_bits()]);
+    assert_eq!(fault(&folder, &bytes), ": this is a rig sheet already, and no text to make one of");
+    assert!(fault(&folder, &bytes[1..]).starts_with(":1:"));
 }
 
 #[test]

@@ -216,8 +216,10 @@ fn a_number_of_any_length_may_name_no_value() {
 }
 
 #[test]
-fn the_name_that_is_printed_turned_round_is_noted() {
-    let rig = rig("turned-product", "a: 4 PGA\n e0 = 1\nb: 4 PGA\n e2 = 1");
+fn blades_are_named_alike_on_every_line() {
+    let rig = rig("rising", "a: 4 PGA\n e0 = 1\nb: 4 PGA\n e2 = 1\nc: 3 PGA\n e2 = 1\nd: 3 PGA\n e0 = 1");
     let out = run(&["product", &rig, "0", "1"]).done();
-    assert!(out.contains("  e₂₀\n  in the line above e₂₀ stands for e02\n    e02           1  exact\n"), "{out}");
+    assert!(out.contains("  e₀₂\n    e02           1  exact\n"), "{out}");
+    let out = run(&["product", &rig, "2", "3"]).done();
+    assert!(out.contains("  e₂₀\n    e20          1  exact\n"), "{out}");
 }

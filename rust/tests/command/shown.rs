@@ -58,14 +58,15 @@ fn a_value_is_shown_in_words() {
 }
 
 #[test]
-fn the_blade_whose_digits_are_printed_turned_round_is_noted() {
-    let folder = folder("turned");
-    let shape = Shape::new(4, Flavor::Projective);
-    let mut patterns = [0; 16];
+fn from_4_dimensions_on_every_blade_rises() {
+    let folder = folder("rising");
+    let shapes = [Shape::new(4, Flavor::Projective), Shape::new(4, Flavor::Vanilla)];
+    let mut patterns = [0; 32];
     patterns[6] = 2f64.to_bits();
-    let rig = file(&folder, "room.rig", &sheet(&[shape], &patterns));
+    patterns[22] = 2f64.to_bits();
+    let rig = file(&folder, "room.rig", &sheet(&shapes, &patterns));
     let out = run(&["show", &rig]).done();
-    assert!(out.contains("  # 2e₂₀\n  # in the line above e₂₀ stands for e02\n  e02 = 2\n"), "{out}");
+    assert!(out.contains("  # 2e₀₂\n  e02 = 2\n") && out.contains("  # 2e₁₃\n  e13 = 2\n"), "{out}");
 }
 
 /// A number of any kind, now and then one that is seldom met.

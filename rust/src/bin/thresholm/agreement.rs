@@ -14,7 +14,7 @@ fn agrees(bytes: &[u8]) {
 }
 
 fn sheet(shapes: &[Shape]) -> Vec<u8> {
-    let count: usize = shapes.iter().map(|shape| 1usize << shape.dims).sum();
+    let count: usize = shapes.iter().map(|shape| 1usize << shape.dims()).sum();
     let patterns: Vec<u64> = (0..count as u64).map(|place| place.wrapping_mul(0x9E37_79B9_7F4A_7C15)).collect();
     Sheet::new(shapes, patterns).and_then(|sheet| sheet.to_bytes()).expect("a good sheet")
 }

@@ -1,6 +1,7 @@
 //! What the command line asks for.
 use crate::help::Topic;
 use crate::stop::Stop;
+use crate::words::quoted;
 use std::ffi::{OsStr, OsString};
 use std::path::PathBuf;
 
@@ -59,7 +60,7 @@ pub fn task_of(arguments: Vec<OsString>) -> Result<Task, Stop> {
 
 /// An argument as text between quotes, whatever its bytes are.
 pub fn shown(argument: &OsStr) -> String {
-    crate::numbers::quoted(&argument.to_string_lossy())
+    quoted(&argument.to_string_lossy())
 }
 
 /// The task of an option that nothing may follow.

@@ -20,9 +20,18 @@ pub fn bytes_of(path: &Path, most: usize) -> Result<Vec<u8>, Stop> {
 pub fn sheet_of(path: &Path) -> Result<Sheet, Stop> {
     let bytes = bytes_of(path, MOST_BYTES)?;
     Sheet::from_bytes(&bytes).map_err(|error| match first_wrong(&bytes) {
+        Some(wrong) if is_text(&bytes) => {
+            Stop::in_file(path, format!("{wrong} (this is a text: thresholm import makes a rig sheet of one)"))
+        }
         Some(wrong) => Stop::in_file(path, wrong),
-        None => Stop::in_file(path, format!("refused with {}: {error}", error.number())),
+        None => Stop::by_library(path, error),
     })
+}
+
+/// Whether bytes are what people type. A rig sheet has a zero byte in its first count.
+fn is_text(bytes: &[u8]) -> bool {
+    let typed = |c: char| !c.is_control() || c.is_whitespace();
+    !bytes.is_empty() && std::str::from_utf8(bytes).is_ok_and(|text| text.chars().all(typed))
 }
 
 /// Writes a file by way of another beside it, so that what was there stays whole where this fails.

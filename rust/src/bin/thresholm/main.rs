@@ -2,19 +2,18 @@
 #[cfg(test)]
 mod agreement;
 mod arguments;
-mod blades;
-mod bound;
 mod diagnosis;
 mod files;
 mod help;
 mod import;
-mod numbers;
 mod product;
+mod said;
 mod show;
+mod step;
 mod stop;
-mod text;
-mod values;
-mod whole;
+/// Messages have the words of the library's own.
+#[path = "../../rig/words.rs"]
+mod words;
 
 use arguments::Task;
 use std::io::{self, ErrorKind, Write};

@@ -2,6 +2,7 @@
 use crate::help::Topic;
 use std::path::Path;
 use std::process::ExitCode;
+use thresholm::Error;
 
 /// Text with its control characters escaped.
 pub fn on_one_line(text: &str) -> String {
@@ -32,6 +33,11 @@ impl Stop {
     /// Refused, for a reason that lies in a file.
     pub fn in_file(file: &Path, why: impl std::fmt::Display) -> Stop {
         Stop::Refused(format!("{}: {why}", shown_path(file)))
+    }
+
+    /// Refused by the library, for something in a file.
+    pub fn by_library(file: &Path, error: Error) -> Stop {
+        Stop::in_file(file, format!("refused with {}: {error}", error.number()))
     }
 
     pub fn message(&self) -> String {

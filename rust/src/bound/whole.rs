@@ -2,7 +2,7 @@
 use std::cmp::Ordering;
 
 /// A whole number, the lowest word first; the highest word is not 0.
-#[derive(Clone, Debug, Default, PartialEq, Eq)]
+#[derive(Clone, Debug, Default, PartialEq, Eq, Hash)]
 pub struct Whole(Vec<u64>);
 
 impl Whole {
@@ -18,7 +18,7 @@ impl Whole {
     }
 
     /// How many binary digits it has.
-    fn length(&self) -> usize {
+    pub fn length(&self) -> usize {
         self.0.last().map_or(0, |top| 64 * self.0.len() - top.leading_zeros() as usize)
     }
 
@@ -74,10 +74,21 @@ impl Whole {
     }
 
     /// Divides by 2^count, downward; returns whether something was lost.
-    fn halve(&mut self, count: usize) -> bool {
+    pub fn halve(&mut self, count: usize) -> bool {
         let (words, bits) = ((count / 64).min(self.0.len()), count % 64);
         let lost = self.0.drain(..words).any(|word| word != 0);
         self.divide(1 << bits) != 0 || lost
+    }
+
+    /// A 2^count-th of it, rounded up, at most what a word holds.
+    pub fn halved_up(&self, count: usize) -> u64 {
+        let mut all = self.clone();
+        let lost = all.halve(count);
+        match all.0[..] {
+            [] => u64::from(lost),
+            [word] => word.saturating_add(u64::from(lost)),
+            _ => u64::MAX,
+        }
     }
 
     /// So many units of 2^-unit x 10^-power, rounded up.
@@ -95,23 +106,29 @@ impl Whole {
         all
     }
 
-    /// So many units of 2^-unit in decimal, three digits, never below the number itself: `1.43e-14`.
-    pub fn decimal_up(&self, unit: usize) -> String {
+    /// So many units of 2^-unit in decimal with some digits after the point, at most 18, never below the number itself: `1.43e-14`.
+    pub fn decimal_up(&self, unit: usize, digits: usize) -> String {
         if self.is_zero() {
             return "0".to_string();
         }
+        let digits = digits.min(18);
+        let one = 10u64.pow(digits as u32);
         let below = (self.length() as f64 - 1.0 - unit as f64) * 2f64.log10();
         let mut exponent = below.floor() as i32;
         loop {
-            match self.scaled_up(unit, 2 - exponent).0[..] {
-                [digits @ 100..1000] => {
-                    return format!("{}.{:02}e{exponent}", digits / 100, digits % 100);
-                }
-                [0..100] => exponent -= 1,
+            match self.scaled_up(unit, digits as i32 - exponent).0[..] {
+                [all] if all >= one && all / one < 10 => return decimal(all, one, digits, exponent),
+                [all] if all < one => exponent -= 1,
                 _ => exponent += 1,
             }
         }
     }
+}
+
+/// A decimal of its digits, `one` of which make a unit, and its power of ten.
+fn decimal(all: u64, one: u64, digits: usize, exponent: i32) -> String {
+    let (whole, rest) = (all / one, all % one);
+    if digits == 0 { format!("{whole}e{exponent}") } else { format!("{whole}.{rest:0digits$}e{exponent}") }
 }
 
 impl PartialOrd for Whole {
@@ -160,6 +177,8 @@ mod tests {
         assert!(!whole(96).halve(5));
         assert!(whole(97).halve(5));
         assert!(Whole::power_of_two(70).halve(200));
+        assert_eq!([96, 97, 0, 1].map(|x| whole(x).halved_up(5)), [3, 4, 0, 1]);
+        assert_eq!(Whole::power_of_two(100).halved_up(5), u64::MAX);
     }
 
     #[test]
@@ -171,15 +190,20 @@ mod tests {
 
     #[test]
     fn decimals_are_rounded_up() {
-        assert_eq!(Whole::default().decimal_up(46), "0");
-        assert_eq!(whole(1).decimal_up(46), "1.43e-14");
-        assert_eq!(whole(1).decimal_up(0), "1.00e0");
-        assert_eq!(whole(999).decimal_up(0), "9.99e2");
-        assert_eq!(whole(9_991).decimal_up(0), "1.00e4");
-        assert_eq!(whole(1_000).decimal_up(0), "1.00e3");
-        assert_eq!(whole(1_001).decimal_up(0), "1.01e3");
-        assert_eq!(whole(3).decimal_up(1), "1.50e0");
-        assert_eq!(Whole::power_of_two(2100).decimal_up(3200), "7.37e-332");
-        assert_eq!(Whole::power_of_two(3200).decimal_up(2100), "1.36e331");
+        assert_eq!(Whole::default().decimal_up(46, 2), "0");
+        assert_eq!(whole(1).decimal_up(46, 2), "1.43e-14");
+        assert_eq!(whole(1).decimal_up(0, 2), "1.00e0");
+        assert_eq!(whole(999).decimal_up(0, 2), "9.99e2");
+        assert_eq!(whole(9_991).decimal_up(0, 2), "1.00e4");
+        assert_eq!(whole(1_000).decimal_up(0, 2), "1.00e3");
+        assert_eq!(whole(1_001).decimal_up(0, 2), "1.01e3");
+        assert_eq!(whole(3).decimal_up(1, 2), "1.50e0");
+        assert_eq!(Whole::power_of_two(2100).decimal_up(3200, 2), "7.37e-332");
+        assert_eq!(Whole::power_of_two(3200).decimal_up(2100, 2), "1.36e331");
+        assert_eq!(whole(1).decimal_up(46, 0), "2e-14");
+        assert_eq!(whole(1).decimal_up(46, 6), "1.421086e-14");
+        assert_eq!(whole(9_999).decimal_up(0, 2), "1.00e4");
+        assert_eq!(whole(1).decimal_up(1, 99), "5.000000000000000000e-1");
+        assert_eq!(whole(u128::MAX).decimal_up(0, 18), "3.402823669209384635e38");
     }
 }

@@ -1,43 +1,23 @@
-//! The text of a list of values: its lines, words and places.
-use std::fmt;
+//! The text of a rig: its lines, words and places.
+use super::fault::Fault;
 
-/// A place in a text: line and column, both counted from 1, the column in characters.
-#[derive(Clone, Copy, Debug, PartialEq, Eq)]
-pub struct Place {
+/// A part of one line with its place: line and column are counted from 1, the column in characters.
+#[derive(Clone, Copy, Debug)]
+pub struct Piece<'t> {
+    pub text: &'t str,
     pub line: usize,
     pub column: usize,
 }
 
-/// What is wrong in a text, and where.
-#[derive(Debug, PartialEq, Eq)]
-pub struct Fault {
-    pub place: Place,
-    pub what: String,
-}
-
-impl fmt::Display for Fault {
-    fn fmt(&self, f: &mut fmt::Formatter<'_>) -> fmt::Result {
-        write!(f, "{}:{}: {}", self.place.line, self.place.column, self.what)
-    }
-}
-
-/// A part of one line with its place.
-#[derive(Clone, Copy, Debug)]
-pub struct Piece<'t> {
-    pub text: &'t str,
-    pub place: Place,
-}
-
 impl<'t> Piece<'t> {
     pub fn fault<T>(&self, what: impl Into<String>) -> Result<T, Fault> {
-        Err(Fault { place: self.place, what: what.into() })
+        Err(Fault::new(self.line, self.column, what))
     }
 
     /// The part from a byte on; the byte starts a character.
     fn from(&self, at: usize) -> Piece<'t> {
         let (before, text) = self.text.split_at(at);
-        let column = self.place.column + before.chars().count();
-        Piece { text, place: Place { column, ..self.place } }
+        Piece { text, column: self.column + before.chars().count(), ..*self }
     }
 
     /// The part with no space around it.
@@ -94,7 +74,8 @@ impl<'t> Piece<'t> {
 pub fn lines(text: &str) -> impl Iterator<Item = Piece<'_>> {
     text.split('\n').enumerate().map(|(number, line)| Piece {
         text: line.split('#').next().unwrap_or(""),
-        place: Place { line: number + 1, column: 1 },
+        line: number + 1,
+        column: 1,
     })
 }
 
@@ -107,10 +88,7 @@ pub fn decoded(bytes: &[u8]) -> Result<&str, Fault> {
         let line = good.iter().filter(|b| **b == b'\n').count() + 1;
         let start = good.iter().rposition(|b| *b == b'\n').map_or(0, |at| at + 1);
         let column = String::from_utf8_lossy(&good[start..]).chars().count() + 1;
-        Fault {
-            place: Place { line, column },
-            what: format!("the byte 0x{byte:02X} is no part of a text (save the file as UTF-8)"),
-        }
+        Fault::new(line, column, format!("the byte 0x{byte:02X} is no part of a text (save the file as UTF-8)"))
     })
 }
 
@@ -120,7 +98,7 @@ mod tests {
 
     fn columns(line: &str) -> Vec<(&str, usize)> {
         let piece = lines(line).next().expect("a text has a line");
-        piece.words().iter().map(|word| (word.text, word.place.column)).collect()
+        piece.words().iter().map(|word| (word.text, word.column)).collect()
     }
 
     #[test]
@@ -140,11 +118,11 @@ mod tests {
         let (name, rest) = line.parted(':').expect("a colon");
         assert_eq!(name.trimmed().text, "lé ft");
         let (dims, flavor) = rest.first_word();
-        assert_eq!((dims.text, dims.place.column), ("3", 11));
-        assert_eq!((flavor.text, flavor.place.column), ("Cl 3 1", 15));
+        assert_eq!((dims.text, dims.column), ("3", 11));
+        assert_eq!((flavor.text, flavor.column), ("Cl 3 1", 15));
         let (last, none) = flavor.from(5).first_word();
         assert_eq!((last.text, none.text), ("1", ""));
-        let parts: Vec<_> = flavor.between(&[' ', 'l']).iter().map(|part| (part.text, part.place.column)).collect();
+        let parts: Vec<_> = flavor.between(&[' ', 'l']).iter().map(|part| (part.text, part.column)).collect();
         assert_eq!(parts, [("C", 15), ("3", 18), ("1", 20)]);
     }
 

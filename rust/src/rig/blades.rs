@@ -1,19 +1,26 @@
-//! The names of a value's blades: `1`, `e1`, `e12` and so on, counted from 0 where the first basis vector squares to zero.
-use thresholm::Shape;
+//! The names of a value's blades.
+use crate::print::TURNED;
+use crate::shape::Shape;
 
-/// At 3 dimensions the place of this mask stands for its vectors in falling order, e31 or e20; everywhere else the order is rising.
-pub const TURNED: u16 = 0b101;
-
-/// The name of each place of a value, in order; none where its shape has too many dimensions.
-pub fn names(shape: Shape) -> Vec<String> {
-    shape.order().iter().flat_map(|order| order.masks()).map(|mask| name(shape, *mask)).collect()
+/// The name of the blade at each place of a value, in order: `1`, `e1`, `e12` and so on, counted from `e0` where the first basis vector squares to 0.
+/// None where the shape has more than 9 dimensions.
+///
+/// ```
+/// use thresholm::{Flavor, Shape, rig};
+/// assert_eq!(rig::blade_names(Shape::new(3, Flavor::Vanilla)), ["1", "e1", "e2", "e3", "e12", "e31", "e23", "e123"]);
+/// assert_eq!(rig::blade_names(Shape::new(2, Flavor::Projective)), ["1", "e0", "e1", "e01"]);
+/// ```
+#[must_use]
+pub fn blade_names(shape: Shape) -> Vec<String> {
+    let first = u8::from(shape.flavor().metric(0) != 0);
+    shape.order().iter().flat_map(|order| order.masks()).map(|mask| name(shape.dims(), *mask, first)).collect()
 }
 
-fn name(shape: Shape, mask: u16) -> String {
-    let first = u8::from(shape.flavor.metric(0) != 0);
+/// The name of a blade whose first basis vector has the number `first`.
+fn name(dims: u8, mask: u16, first: u8) -> String {
     let digit = |index: u8| char::from(b'0' + index + first);
-    let mut digits: Vec<char> = (0..shape.dims.min(9)).filter(|index| mask >> index & 1 == 1).map(digit).collect();
-    if shape.dims == 3 && mask == TURNED {
+    let mut digits: Vec<char> = (0..dims).filter(|index| mask >> index & 1 == 1).map(digit).collect();
+    if dims == 3 && mask == TURNED {
         digits.reverse();
     }
     if digits.is_empty() { "1".to_string() } else { format!("e{}", digits.iter().collect::<String>()) }
@@ -54,23 +61,26 @@ fn inversions(name: &str) -> usize {
 #[cfg(test)]
 mod tests {
     use super::*;
-    use thresholm::Flavor;
+    use crate::flavor::Flavor;
 
     #[test]
     fn names_are_those_of_the_order() {
-        assert_eq!(names(Shape::new(0, Flavor::Vanilla)), ["1"]);
-        assert_eq!(names(Shape::new(2, Flavor::Vanilla)), ["1", "e1", "e2", "e12"]);
-        assert_eq!(names(Shape::new(3, Flavor::Vanilla)), ["1", "e1", "e2", "e3", "e12", "e31", "e23", "e123"]);
-        assert_eq!(names(Shape::new(3, Flavor::Projective)), ["1", "e0", "e1", "e2", "e01", "e20", "e12", "e012"]);
-        let four = names(Shape::new(4, Flavor::Cl(3, 0, 1))).join(" ");
+        assert_eq!(blade_names(Shape::new(0, Flavor::Vanilla)), ["1"]);
+        assert_eq!(blade_names(Shape::new(2, Flavor::Vanilla)), ["1", "e1", "e2", "e12"]);
+        assert_eq!(blade_names(Shape::new(3, Flavor::Vanilla)), ["1", "e1", "e2", "e3", "e12", "e31", "e23", "e123"]);
+        assert_eq!(
+            blade_names(Shape::new(3, Flavor::Projective)),
+            ["1", "e0", "e1", "e2", "e01", "e20", "e12", "e012"]
+        );
+        let four = blade_names(Shape::new(4, Flavor::Cl(3, 0, 1))).join(" ");
         assert_eq!(four, "1 e0 e1 e2 e3 e01 e02 e03 e12 e13 e23 e012 e013 e023 e123 e0123");
-        let nine = names(Shape::new(9, Flavor::Vanilla));
+        let nine = blade_names(Shape::new(9, Flavor::Vanilla));
         assert_eq!((nine.len(), &*nine[511]), (512, "e123456789"));
     }
 
     #[test]
     fn a_blade_is_found_by_its_name() {
-        let three = names(Shape::new(3, Flavor::Vanilla));
+        let three = blade_names(Shape::new(3, Flavor::Vanilla));
         assert_eq!(place_of(&three, "e31"), Ok(5));
         assert_eq!(
             place_of(&three, "e13"),
@@ -78,7 +88,7 @@ mod tests {
         );
         assert_eq!(place_of(&three, "e231"), Err("here this blade is written e123".to_string()));
         assert_eq!(place_of(&three, "e4"), Err("the blades of this value are 1 e1 e2 e3 e12 e31 e23 e123".to_string()));
-        let four = names(Shape::new(4, Flavor::Projective));
+        let four = blade_names(Shape::new(4, Flavor::Projective));
         assert_eq!(
             place_of(&four, "e20"),
             Err("here this blade is written e02, and its number has the other sign".to_string())

@@ -1,4 +1,5 @@
 //! Numbers as text: read from what a person types, and written so that they read back bit for bit.
+use super::words::quoted;
 
 /// The bit pattern of a number's text, or what is wrong with it.
 pub fn pattern_of(text: &str) -> Result<u64, String> {
@@ -44,20 +45,13 @@ fn is_blade_like(text: &str) -> bool {
     text.strip_prefix('e').is_some_and(|digits| !digits.is_empty() && digits.bytes().all(|b| b.is_ascii_digit()))
 }
 
-/// Text between quotes, short, and with no control characters.
-pub fn quoted(text: &str) -> String {
-    format!("'{}'", short(text))
-}
-
-/// The start of a text with no control characters, all of it where it is short.
-pub fn short(text: &str) -> String {
-    const LONGEST: usize = 40;
-    let start: String = text.chars().take(LONGEST).flat_map(char::escape_debug).collect();
-    let more = if text.chars().nth(LONGEST).is_some() { "..." } else { "" };
-    format!("{start}{more}")
-}
-
 /// A number in few characters that read back as the same number.
+///
+/// ```
+/// use thresholm::rig::spelled;
+/// assert_eq!([0.1, 1200.0, 2.5e-7].map(spelled), ["0.1", "1200", "2.5e-7"]);
+/// ```
+#[must_use]
 pub fn spelled(number: f64) -> String {
     let size = number.abs();
     if size == 0.0 || !size.is_finite() || (1e-5..1e16).contains(&size) {
@@ -71,11 +65,6 @@ pub fn spelled(number: f64) -> String {
 pub fn spelled_pattern(pattern: u64) -> String {
     let number = f64::from_bits(pattern);
     if number.is_nan() { format!("0x{pattern:016X}") } else { spelled(number) }
-}
-
-/// `1 value`, `2 values`.
-pub fn counted(count: usize, thing: &str) -> String {
-    format!("{count} {thing}{}", if count == 1 { "" } else { "s" })
 }
 
 #[cfg(test)]
@@ -130,11 +119,5 @@ mod tests {
         assert_eq!(spelled(1e16), "1e16");
         assert_eq!(spelled(0.00001), "0.00001");
         assert_eq!(spelled(1200.5), "1200.5");
-    }
-
-    #[test]
-    fn quotes_are_short_and_plain() {
-        assert_eq!(quoted("a\u{1b}b"), "'a\\u{1b}b'");
-        assert_eq!(quoted(&"x".repeat(41)), format!("'{}...'", "x".repeat(40)));
     }
 }
