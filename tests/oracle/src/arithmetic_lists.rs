@@ -32,7 +32,7 @@ pub fn power_of(s: Shape, a: Vec<f64>, p: i32, room: usize) -> Call {
 /// A call on two values. A comparison has no output.
 pub fn two(op: u64, s: Shape, t: Shape, a: Vec<f64>, b: Vec<f64>, room: usize) -> Call {
     let room = if [EQ, CMP].contains(&op) { 0 } else { room };
-    Call { op, words: [&[s.0][..], &s.1, &[t.0], &t.1].concat(), a, b, room, room_right: 0 }
+    Call { op, words: [&[s.0][..], &s.1, &[t.0], &t.1].concat(), a, b, room, ..Call::default() }
 }
 
 /// Every power of small size, and large ones.

@@ -31,8 +31,8 @@ impl Texts {
     }
     fn value(&mut self, f: Words, numbers: &[f64]) {
         let shape = thresholm::Shape::new(numbers.len().ilog2() as u8, flavor(f));
-        let given =
-            thresholm::Multivector::new(shape, numbers).map_or_else(|e| format!("refused: {e}"), |m| m.to_string());
+        let given = thresholm::Multivector::new(shape, numbers)
+            .map_or_else(|e| format!("refused: {e}"), |m| m.workstation_text());
         let what = || format!("flavor {f:?}, numbers {numbers:?}");
         self.text(what, rust::make(rules::flavor(&f), numbers).to_string(), given);
     }

@@ -10,6 +10,8 @@ pub struct Call {
     pub b: Vec<f64>,
     pub room: usize,
     pub room_right: usize,
+    /// The sixth byte of each shape that the exports take; a line has none.
+    pub marks: [u8; 2],
 }
 
 /// What comes out: words, and what is written from the front of the two outputs.
@@ -28,6 +30,8 @@ pub struct SheetCall {
     pub first: Vec<u64>,
     pub second: Vec<u64>,
     pub room: usize,
+    /// How many bytes the exports may write shapes to; a line has no such output.
+    pub room_shapes: usize,
 }
 
 /// What comes out: words, and what is written from the front of the output.

@@ -36,9 +36,6 @@ pub const NULL_FLAVOR: u64 = 26;
 pub const PROMOTION: u64 = 32;
 pub const SHAPE_OF: u64 = 62;
 
-/// Every call that takes something, in the order of its numbers.
-pub const ALL: std::ops::RangeInclusive<u64> = GRADE_SIZE..=UNPACK_VECTOR;
-
 fn list(v: Vec<f64>) -> Answer {
     Answer { words: vec![0, v.len() as u64], out: v, right: vec![] }
 }

@@ -20,7 +20,7 @@ pub fn flavors() -> Vec<Words> {
 
 pub fn product(op: u64, left: (u64, Words), right: (u64, Words), a: Vec<f64>, b: Vec<f64>, room: usize) -> Call {
     let words = [&[left.0][..], &left.1, &[right.0], &right.1].concat();
-    Call { op, words, a, b, room, room_right: 0 }
+    Call { op, words, a, b, room, ..Call::default() }
 }
 
 /// A product of two values of one shape, with a place to spare.

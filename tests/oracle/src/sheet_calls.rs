@@ -61,7 +61,8 @@ fn shape_list(shapes: &[Shape]) -> Vec<u64> {
 
 /// A write of shapes that are held, the first `count` of them listed.
 pub fn write(count: u64, shapes: &[Shape], patterns: &[u64], room: usize) -> SheetCall {
-    SheetCall { op: WRITE, words: vec![count], first: shape_list(shapes), second: patterns.to_vec(), room }
+    let (first, second) = (shape_list(shapes), patterns.to_vec());
+    SheetCall { op: WRITE, words: vec![count], first, second, room, ..SheetCall::default() }
 }
 
 pub fn value_at(count: u64, shapes: &[Shape], index: u64) -> SheetCall {

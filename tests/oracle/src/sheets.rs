@@ -18,7 +18,7 @@ pub fn shape_words(s: &Shape) -> [u64; 5] {
     [s.dims, s.kind, s.p, s.n, s.z].map(u64::from)
 }
 
-/// The shapes that a call is given: how many there are, each that is there, and no byte past the last five.
+/// The shapes that a call is given: how many there are, each that is there, and whether no byte is past the last.
 pub struct Listed {
     pub count: u64,
     pub shapes: Vec<Shape>,
@@ -37,7 +37,7 @@ impl Listed {
         Listed { count, shapes: held.take(count.min(HELD as u64) as usize).collect(), is_whole: true }
     }
     /// The sum of the 2^d. 1: "a given .. dimension is above 9", whichever shape has it. 2: "an input's count is not the one the call needs",
-    /// where a shape has "five bytes".
+    /// where bytes are no whole shapes.
     fn coefficients(&self) -> Given<u64> {
         let sum = ours::coefficients(&self.shapes).ok_or(1u64)?;
         unless(!self.is_whole, 2)?;

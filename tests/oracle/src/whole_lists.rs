@@ -48,9 +48,7 @@ pub fn exhaustive(r: &mut Rng, each: &mut impl FnMut(Call)) {
     for d in 0..256 {
         each(Call { op: BLADE_COUNT, words: vec![d], ..Call::default() });
     }
-    each(Call { op: NULL_FLAVOR, ..Call::default() });
     promotions(each);
-    shapes(0..256, each);
     for index in 0..256 {
         each(Call { op: METRIC, words: vec![0, 0, 0, 0, 0, index], ..Call::default() });
         each(Call { op: METRIC, words: vec![0, 1, 0, 0, 0, index], ..Call::default() });

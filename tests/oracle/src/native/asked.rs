@@ -6,7 +6,7 @@ use crate::masks::{N_1_BLADES, VECTOR};
 use crate::sheet_reader as ours;
 use crate::sheets::{READ, VALUE_AT, WRITE};
 
-/// Of a sheet call the first list has bytes (a sheet's, or the shapes', five each), patterns or numbers; the second patterns; the words only
+/// Of a sheet call the first list has bytes (a sheet's, or the shapes', six each), patterns or numbers; the second patterns; the words only
 /// an index.
 #[derive(Clone)]
 pub enum Asked {
@@ -22,14 +22,17 @@ pub fn has_dims(op: u64) -> bool {
 /// More shapes than a sheet may have: a count of more, which no list of bytes can have, is taken for so many.
 const TOO_MANY: u64 = 70;
 
+/// The bytes of as many shapes as a sheet may have: room enough for any.
+pub const ROOM_ENOUGH: usize = 6 * 64;
+
 impl Asked {
-    /// A sheet call of the lines: so many shapes are listed, those that are not held are shape 0 Vanilla.
+    /// A sheet call of the lines: so many shapes are listed, each with a mark of 0; those that are not held are shape 0 Vanilla.
     pub fn sheet(mut c: SheetCall) -> Asked {
         if [WRITE, VALUE_AT].contains(&c.op) {
-            c.first.resize(5 * c.words[0].min(TOO_MANY) as usize, 0);
-            c.words.remove(0);
+            c.first.resize(5 * c.words.remove(0).min(TOO_MANY) as usize, 0);
+            c.first = c.first.chunks_exact(5).flat_map(|s| s.iter().copied().chain([0])).collect();
         }
-        Asked::Sheet(c)
+        Asked::Sheet(SheetCall { room_shapes: ROOM_ENOUGH, ..c })
     }
     pub fn op(&self) -> u64 {
         match self {
@@ -40,13 +43,13 @@ impl Asked {
     pub fn name(&self) -> &'static str {
         known(self.op()).name
     }
-    /// What is lent, marked.
-    pub fn memory(&self, mark: u8) -> Memory {
+    /// What is lent, filled.
+    pub fn memory(&self, fill: u8) -> Memory {
         let (room, right) = match self {
             Asked::Values(c) => (c.room, c.room_right),
-            Asked::Sheet(c) => (c.room, 0),
+            Asked::Sheet(c) => (c.room, c.room_shapes),
         };
-        let memory = Memory::marked(known(self.op()).lends, room, right, mark);
+        let memory = Memory::filled(known(self.op()).lends, room, right, fill);
         Memory { has_nan_bits: moves(self.op()), ..memory }
     }
     /// The most dimensions that the call names, where it names any.
@@ -61,7 +64,7 @@ impl Asked {
                 let bytes: Vec<u8> = c.first.iter().map(|b| *b as u8).collect();
                 ours::read(&bytes).ok()?.shapes.iter().map(|s| s.dims.into()).max()
             }
-            Asked::Sheet(c) if [WRITE, VALUE_AT].contains(&c.op) => c.first.iter().step_by(5).copied().max(),
+            Asked::Sheet(c) if [WRITE, VALUE_AT].contains(&c.op) => c.first.iter().step_by(6).copied().max(),
             Asked::Sheet(_) => None,
         }
     }

@@ -1,16 +1,16 @@
-//! The memory that is lent to a call, marked before it: so a call is compared by all that it returns and all that it leaves, what it
+//! The memory that is lent to a call, filled before it: so a call is compared by all that it returns and all that it leaves, what it
 //! must not touch included.
-use super::known::Lends;
+use super::lends::{Lends, REFERENCES};
 
-/// So many cells stand before and after each lent list, and are marked too.
+/// So many cells stand before and after each lent list, and are filled too.
 pub const AROUND: usize = 8;
 
-/// The byte that fills what is lent. No mark is a NaN.
-pub const MARKS: [u8; 2] = [0xa5, 0x5a];
+/// The byte that fills what is lent. No fill is a NaN.
+pub const FILLS: [u8; 2] = [0xa5, 0x5a];
 
-/// A mark, eight bytes of it.
-pub fn marked(mark: u8) -> u64 {
-    u64::from_ne_bytes([mark; 8])
+/// A fill, eight bytes of it.
+pub fn filled(fill: u8) -> u64 {
+    u64::from_ne_bytes([fill; 8])
 }
 
 /// A number of some width, as its bits.
@@ -64,7 +64,7 @@ impl Cell for f64 {
     }
 }
 
-/// A list that is lent, with marked cells around it; one that is not lent has no cells.
+/// A list that is lent, with filled cells around it; one that is not lent has no cells.
 #[derive(Clone)]
 pub struct Lent<T> {
     cells: Vec<T>,
@@ -75,11 +75,11 @@ impl<T: Cell> Lent<T> {
     pub fn none() -> Self {
         Lent { cells: vec![], room: 0 }
     }
-    pub fn new(room: usize, mark: u8) -> Self {
-        Lent { cells: vec![T::of(marked(mark)); room + 2 * AROUND], room }
+    pub fn new(room: usize, fill: u8) -> Self {
+        Lent { cells: vec![T::of(filled(fill)); room + 2 * AROUND], room }
     }
-    pub fn holding(list: impl ExactSizeIterator<Item = T>, mark: u8) -> Self {
-        let mut lent = Lent::new(list.len(), mark);
+    pub fn holding(list: impl ExactSizeIterator<Item = T>, fill: u8) -> Self {
+        let mut lent = Lent::new(list.len(), fill);
         lent.put(list);
         lent
     }
@@ -95,10 +95,15 @@ impl<T: Cell> Lent<T> {
         assert!(!self.cells.is_empty() && i <= self.room, "nothing is lent there");
         self.cells.as_mut_ptr().wrapping_add(AROUND + i)
     }
+    /// The address of the list; null for an empty one with the second fill.
+    pub fn start(&mut self) -> *mut T {
+        let is_second = self.cells.first().is_some_and(|x| x.bits() == T::of(filled(FILLS[1])).bits());
+        if self.room == 0 && is_second { std::ptr::null_mut() } else { self.at(0) }
+    }
     pub fn count(&self) -> usize {
         self.room
     }
-    /// It is just this list, and the cells around it are still marked.
+    /// It is just this list, and the cells around it are still filled.
     pub fn holds(&self, list: &Lent<T>) -> bool {
         self.cells.iter().map(|x| x.bits()).eq(list.cells.iter().map(|x| x.bits()))
     }
@@ -151,8 +156,9 @@ pub struct Memory {
     pub kept: bool,
     /// A NaN is compared by its bits; without, it is the same as any other.
     pub has_nan_bits: bool,
-    /// References to shapes, a flavor, yes or no, or a test.
+    /// References: a shape's or a flavor's six bytes, yes or no, or a test; the right value's shape; and others.
     pub bytes: Lent<u8>,
+    pub bytes_right: Lent<u8>,
     pub counts: Lent<usize>,
     pub pairs: Lent<u32>,
     pub order: Lent<i8>,
@@ -164,33 +170,37 @@ pub struct Memory {
     pub places: Lent<u16>,
     pub text: Lent<u8>,
     pub patterns: Lent<u64>,
+    pub shapes: Lent<u8>,
 }
 
 impl Memory {
     /// Marked, and nothing returned yet.
-    pub fn marked(lends: Lends, room: usize, room_right: usize, mark: u8) -> Memory {
+    pub fn filled(lends: Lends, room: usize, room_right: usize, fill: u8) -> Memory {
         use Lends::*;
-        let [bytes, counts, pairs, order, values] = references(lends);
+        let [bytes, bytes_right, counts, pairs, order, values] = lends.references();
         Memory {
             returned: 0,
             kept: true,
             has_nan_bits: true,
-            bytes: lent(bytes, mark),
-            counts: lent(counts, mark),
-            pairs: lent(pairs, mark),
-            order: lent(order, mark),
-            values: lent(values, mark),
-            out: output(matches!(lends, Value | Values | Product | Taken | List), room, mark),
-            right: output(lends == Values, room_right, mark),
-            masks: output(lends == Masks, room, mark),
-            places: output(lends == Masks, room_right, mark),
-            text: output(lends == Text, room, mark),
-            patterns: output(matches!(lends, Patterns | Sheet), room, mark),
+            bytes: lent(bytes, fill),
+            bytes_right: lent(bytes_right, fill),
+            counts: lent(counts, fill),
+            pairs: lent(pairs, fill),
+            order: lent(order, fill),
+            values: lent(values, fill),
+            out: output(matches!(lends, Value | Values | Product | Taken | List), room, fill),
+            right: output(lends == Values, room_right, fill),
+            masks: output(lends == Masks, room, fill),
+            places: output(lends == Masks, room_right, fill),
+            text: output(lends == Text, room, fill),
+            patterns: output(matches!(lends, Patterns | Sheet), room, fill),
+            shapes: output(lends == Sheet, room_right, fill),
         }
     }
     pub fn same(&self, other: &Memory) -> bool {
         (self.returned, self.kept) == (other.returned, other.kept)
             && self.bytes.same(&other.bytes, true)
+            && self.bytes_right.same(&other.bytes_right, true)
             && self.counts.same(&other.counts, true)
             && self.pairs.same(&other.pairs, true)
             && self.order.same(&other.order, true)
@@ -201,6 +211,7 @@ impl Memory {
             && self.places.same(&other.places, true)
             && self.text.same(&other.text, true)
             && self.patterns.same(&other.patterns, true)
+            && self.shapes.same(&other.shapes, true)
     }
     /// The call returns the number of a refusal.
     pub fn is_refused(&self, lends: Lends) -> bool {
@@ -210,6 +221,7 @@ impl Memory {
     pub fn lists(&mut self) -> [&mut dyn Cells; LISTS.len()] {
         [
             &mut self.bytes,
+            &mut self.bytes_right,
             &mut self.counts,
             &mut self.pairs,
             &mut self.order,
@@ -220,39 +232,22 @@ impl Memory {
             &mut self.places,
             &mut self.text,
             &mut self.patterns,
+            &mut self.shapes,
         ]
     }
 }
 
-/// The names of the lists; the first five are references. No call has two outputs of one name.
-pub const LISTS: [&str; 11] =
-    ["bytes", "counts", "pairs", "order", "values", "out", "out_right", "masks", "places", "out", "out"];
-pub const REFERENCES: usize = 5;
+/// The names of the lists, the references first. No call has two outputs of one name.
+#[rustfmt::skip]
+pub const LISTS: [&str; REFERENCES + 7] = [
+    "bytes", "bytes_right", "counts", "pairs", "order", "values",
+    "out", "out_right", "masks", "places", "out", "out", "shapes",
+];
 
-/// How many references to bytes, counts, pairs, orders and numbers are lent.
-fn references(lends: Lends) -> [usize; REFERENCES] {
-    use Lends::*;
-    match lends {
-        Nothing => [0, 0, 0, 0, 0],
-        OnlyFlavor | Flavor => [4, 0, 0, 0, 0],
-        OnlyShape | Shape | Value => [5, 0, 0, 0, 0],
-        Values => [10, 0, 0, 0, 0],
-        Product => [5, 0, 1, 0, 0],
-        Taken => [5, 0, 0, 0, 1],
-        Number => [0, 0, 0, 0, 1],
-        Test => [1, 0, 0, 0, 2],
-        Yes => [1, 0, 0, 0, 0],
-        Order => [0, 0, 0, 1, 0],
-        Count | List | Text | Patterns | Masks => [0, 1, 0, 0, 0],
-        Start | Sheet => [0, 2, 0, 0, 0],
-        Place => [5, 1, 0, 0, 0],
-    }
+fn lent<T: Cell>(room: usize, fill: u8) -> Lent<T> {
+    output(room > 0, room, fill)
 }
 
-fn lent<T: Cell>(room: usize, mark: u8) -> Lent<T> {
-    output(room > 0, room, mark)
-}
-
-fn output<T: Cell>(is_lent: bool, room: usize, mark: u8) -> Lent<T> {
-    if is_lent { Lent::new(room, mark) } else { Lent::none() }
+fn output<T: Cell>(is_lent: bool, room: usize, fill: u8) -> Lent<T> {
+    if is_lent { Lent::new(room, fill) } else { Lent::none() }
 }

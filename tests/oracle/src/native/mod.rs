@@ -1,19 +1,25 @@
 //! The comparison through the exports: the archive of the proved calls, linked and called as a C program would.
+mod actual;
 pub mod asked;
+mod byte_lists;
+#[path = "../../../calls.rs"]
+mod calls;
 mod expected;
-mod exports;
+mod given;
 mod known;
+mod lends;
 pub mod lists;
 mod memory;
 mod more_lists;
 mod moves;
-mod named;
 mod nan_lists;
 mod plain;
 mod planted;
 mod print;
 pub mod run;
+mod shape_lists;
 mod shrink;
+mod spelling;
 #[path = "../../../../rust/src/sys.rs"]
 mod sys;
 mod table;

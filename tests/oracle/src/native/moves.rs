@@ -2,7 +2,7 @@
 use super::known::{Part, placed};
 use super::plain::Plain;
 use crate::sheet_reader::{self as ours, Shape, Sheet};
-use crate::sheets::{READ, WRITE};
+use crate::sheets::{READ, VALUE_AT, WRITE, shape_words};
 use std::ops::Range;
 
 /// One step. It is made from one call and tried on those that came of it, so it may not fit any more.
@@ -20,6 +20,7 @@ pub enum Move {
     DropWord(usize),
     /// Every flavor is this one.
     Flavors([u64; 4]),
+    Mark(usize, u8),
     Room(usize, usize),
     /// A sheet has no more a shape, or one of its shapes a dimension less, with the coefficients: the first half is left, or the other.
     DropShape(usize),
@@ -43,62 +44,73 @@ fn without_vector(c: &mut Plain, list: usize, i: usize) -> Option<()> {
     Some(())
 }
 
-/// The sheet that a call reads or writes.
-fn sheet(c: &Plain) -> Option<Sheet> {
-    let byte = |w: &u64| *w as u8;
-    match c.op {
-        READ => ours::read(&c.lists[0].iter().map(byte).collect::<Vec<u8>>()).ok(),
-        WRITE if c.lists[0].len().is_multiple_of(5) => {
-            let five = |s: &[u64]| Shape {
-                dims: byte(&s[0]),
-                kind: byte(&s[1]),
-                p: byte(&s[2]),
-                n: byte(&s[3]),
-                z: byte(&s[4]),
-            };
-            let s = Sheet { shapes: c.lists[0].chunks(5).map(five).collect(), patterns: c.lists[1].clone() };
-            (ours::coefficients(&s.shapes) == Some(s.patterns.len() as u64)).then_some(s)
+/// The sheet that a call reads or writes, with the marks of the shapes that are written.
+struct Marked {
+    shapes: Vec<Shape>,
+    marks: Vec<u64>,
+    patterns: Vec<u64>,
+}
+
+impl Marked {
+    fn of(c: &Plain) -> Option<Marked> {
+        let [first, second] = &c.lists;
+        match c.op {
+            READ => {
+                let sheet = ours::read(&first.iter().map(|w| *w as u8).collect::<Vec<u8>>()).ok()?;
+                Some(Marked { marks: vec![0; sheet.shapes.len()], shapes: sheet.shapes, patterns: sheet.patterns })
+            }
+            WRITE if first.len().is_multiple_of(6) => {
+                let shape = |s: &[u64]| {
+                    let [dims, kind, p, n, z] = [0, 1, 2, 3, 4].map(|i| s[i] as u8);
+                    Shape { dims, kind, p, n, z }
+                };
+                let shapes: Vec<Shape> = first.chunks(6).map(shape).collect();
+                let marks = first.chunks(6).map(|s| s[5]).collect();
+                let is_sheet = ours::coefficients(&shapes) == Some(second.len() as u64);
+                is_sheet.then(|| Marked { shapes, marks, patterns: second.clone() })
+            }
+            _ => None,
         }
-        _ => None,
+    }
+    /// The lists of a call that reads or writes it.
+    fn lists(self, op: u64) -> [Vec<u64>; 2] {
+        if op == READ {
+            let bytes = ours::write(&Sheet { shapes: self.shapes, patterns: self.patterns });
+            return [bytes.into_iter().map(u64::from).collect(), vec![]];
+        }
+        let six = |(s, mark): (&Shape, u64)| shape_words(s).into_iter().chain([mark]);
+        [self.shapes.iter().zip(self.marks).flat_map(six).collect(), self.patterns]
+    }
+    /// The coefficients of the shape at an index.
+    fn coefficients(&self, i: usize) -> Option<Range<usize>> {
+        let from = ours::coefficients(self.shapes.get(..i)?)? as usize;
+        Some(from..from + (1usize << self.shapes.get(i)?.dims))
+    }
+    fn drop_shape(&mut self, i: usize) -> Option<()> {
+        let at = self.coefficients(i)?;
+        self.patterns.drain(at);
+        self.shapes.remove(i);
+        self.marks.remove(i);
+        Some(())
+    }
+    fn lower_shape(&mut self, i: usize, half: usize) -> Option<()> {
+        let at = self.coefficients(i)?;
+        self.shapes[i].dims = self.shapes[i].dims.checked_sub(1)?;
+        let (n, from) = (at.len() / 2, at.start + (1 - half) * at.len() / 2);
+        self.patterns.drain(from..from + n);
+        Some(())
+    }
+    fn plain_shape(&mut self, i: usize) -> Option<()> {
+        let shape = self.shapes.get_mut(i)?;
+        *shape = Shape { dims: shape.dims, ..Shape::default() };
+        Some(())
     }
 }
 
-fn with_sheet(c: &mut Plain, change: impl FnOnce(&mut Sheet) -> Option<()>) -> Option<()> {
-    let mut s = sheet(c)?;
+fn with_sheet(c: &mut Plain, change: impl FnOnce(&mut Marked) -> Option<()>) -> Option<()> {
+    let mut s = Marked::of(c)?;
     change(&mut s)?;
-    let bytes: Vec<u64> = ours::write(&s).into_iter().map(u64::from).collect();
-    if c.op == READ {
-        c.lists[0] = bytes;
-    } else {
-        c.lists = [bytes[2..2 + 5 * s.shapes.len()].to_vec(), s.patterns];
-    }
-    Some(())
-}
-
-/// The coefficients of a sheet's shape at an index.
-fn coefficients(s: &Sheet, i: usize) -> Option<Range<usize>> {
-    let from = ours::coefficients(s.shapes.get(..i)?)? as usize;
-    Some(from..from + (1usize << s.shapes.get(i)?.dims))
-}
-
-fn drop_shape(s: &mut Sheet, i: usize) -> Option<()> {
-    let at = coefficients(s, i)?;
-    s.patterns.drain(at);
-    s.shapes.remove(i);
-    Some(())
-}
-
-fn lower_shape(s: &mut Sheet, i: usize, half: usize) -> Option<()> {
-    let at = coefficients(s, i)?;
-    s.shapes[i].dims = s.shapes[i].dims.checked_sub(1)?;
-    let (n, from) = (at.len() / 2, at.start + (1 - half) * at.len() / 2);
-    s.patterns.drain(from..from + n);
-    Some(())
-}
-
-fn plain_shape(s: &mut Sheet, i: usize) -> Option<()> {
-    let shape = s.shapes.get_mut(i)?;
-    *shape = Shape { dims: shape.dims, ..Shape::default() };
+    c.lists = s.lists(c.op);
     Some(())
 }
 
@@ -123,10 +135,11 @@ impl Move {
                 let parts = placed(c.op, c.words.len()).into_iter().filter(|(part, ..)| *part == Part::Flavor);
                 parts.for_each(|(_, at, n)| c.words[at..at + n].copy_from_slice(flavor))
             }
+            Move::Mark(which, mark) => c.marks[*which] = *mark,
             Move::Room(which, room) => c.rooms[*which] = *room,
-            Move::DropShape(i) => with_sheet(&mut c, |s| drop_shape(s, *i))?,
-            Move::LowerShape(i, half) => with_sheet(&mut c, |s| lower_shape(s, *i, *half))?,
-            Move::PlainShape(i) => with_sheet(&mut c, |s| plain_shape(s, *i))?,
+            Move::DropShape(i) => with_sheet(&mut c, |s| s.drop_shape(*i))?,
+            Move::LowerShape(i, half) => with_sheet(&mut c, |s| s.lower_shape(*i, *half))?,
+            Move::PlainShape(i) => with_sheet(&mut c, |s| s.plain_shape(*i))?,
             Move::Pattern(i, x) => with_sheet(&mut c, |s| s.patterns.get_mut(*i).map(|pattern| *pattern = *x))?,
         }
         Some(c)
@@ -139,13 +152,19 @@ pub fn moves(c: &Plain) -> Vec<Move> {
     for i in (0..9).rev() {
         all.extend([&[0, 1][..], &[0], &[1]].map(|lists| Move::Vector(i, lists)));
     }
-    if let Some(s) = sheet(c) {
+    if let Some(s) = Marked::of(c) {
         sheet_moves(&s, &mut all);
+    }
+    if [WRITE, VALUE_AT].contains(&c.op) {
+        all.extend((0..c.lists[0].len() / 6).rev().map(|i| Move::Drop(0, 6 * i..6 * i + 6)));
     }
     for list in 0..2 {
         list_moves(c, list, &mut all);
     }
     word_moves(c, &mut all);
+    for (which, mark) in c.marks.iter().enumerate() {
+        all.extend([0, 1, mark / 2, mark.saturating_sub(1)].map(|mark| Move::Mark(which, mark)));
+    }
     for (which, room) in c.rooms.iter().enumerate() {
         let less = (0..10).map(|d| 1 << d).chain([0, room / 2, room.saturating_sub(1)]);
         all.extend(less.map(|room| Move::Room(which, room)));
@@ -153,7 +172,7 @@ pub fn moves(c: &Plain) -> Vec<Move> {
     all
 }
 
-fn sheet_moves(s: &Sheet, all: &mut Vec<Move>) {
+fn sheet_moves(s: &Marked, all: &mut Vec<Move>) {
     let shapes = (0..s.shapes.len()).rev();
     all.extend(shapes.clone().map(Move::DropShape));
     all.extend(

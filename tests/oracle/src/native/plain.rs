@@ -13,6 +13,7 @@ pub struct Plain {
     pub words: Vec<u64>,
     pub lists: [Vec<u64>; 2],
     pub rooms: [usize; 2],
+    pub marks: [u8; 2],
     is_sheet: bool,
 }
 
@@ -32,19 +33,25 @@ impl Plain {
                 words: c.words,
                 lists: [bits(&c.a), bits(&c.b)],
                 rooms: [c.room, c.room_right],
+                marks: c.marks,
                 is_sheet: false,
             },
-            Asked::Sheet(c) => {
-                Plain { op: c.op, words: c.words, lists: [c.first, c.second], rooms: [c.room, 0], is_sheet: true }
-            }
+            Asked::Sheet(c) => Plain {
+                op: c.op,
+                words: c.words,
+                lists: [c.first, c.second],
+                rooms: [c.room, c.room_shapes],
+                marks: [0, 0],
+                is_sheet: true,
+            },
         }
     }
     pub fn asked(&self) -> Asked {
-        let Plain { op, words, lists: [first, second], rooms: [room, room_right], is_sheet } = self.clone();
+        let Plain { op, words, lists: [first, second], rooms: [room, other], marks, is_sheet } = self.clone();
         if is_sheet {
-            Asked::Sheet(SheetCall { op, words, first, second, room })
+            Asked::Sheet(SheetCall { op, words, first, second, room, room_shapes: other })
         } else {
-            Asked::Values(Call { op, words, a: numbers(&first), b: numbers(&second), room, room_right })
+            Asked::Values(Call { op, words, a: numbers(&first), b: numbers(&second), room, room_right: other, marks })
         }
     }
     pub fn has_numbers(&self) -> bool {
@@ -65,7 +72,8 @@ impl Plain {
         let weigh = if self.has_numbers() { number_weight } else { word_weight };
         let lists: u64 = self.lists.iter().flatten().map(|x| 100 + weigh(*x)).sum();
         let rooms = self.rooms.iter().sum::<usize>() as u64;
-        lists + rooms + self.words_size()
+        let marks: u64 = self.marks.iter().map(|mark| word_weight((*mark).into())).sum();
+        lists + rooms + marks + self.words_size()
     }
     fn words_size(&self) -> u64 {
         let part = |(part, at, n): (Part, usize, usize)| {

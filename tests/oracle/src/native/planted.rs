@@ -1,17 +1,18 @@
 //! That differences are found and made small: ports that are wrong in one place, over the exports.
+use super::actual::actual;
 use super::asked::Asked;
-use super::exports::actual;
 use super::known::{MANY, known, numbers};
 use super::lists::drawn;
 use super::memory::{AROUND, Cells, Memory};
 use super::plain::Plain;
 use super::run::{Comparison, difference};
 use super::shrink::shrunk;
+use super::spelling::spelled;
 use crate::arithmetic::{MUL, NEG, POWI};
-use crate::masks::{CONFORM, SCALAR, SET_DIMS, TRY_FROM_STR, UNPACK_VECTOR};
+use crate::masks::{CONFORM, METRIC, SCALAR, SET_DIMS, TRY_FROM_STR, UNPACK_VECTOR};
 use crate::numbers::Rng;
 use crate::products::GENERAL_PRODUCT;
-use crate::sheets::{READ, VALUE_AT};
+use crate::sheets::{READ, VALUE_AT, WRITE};
 
 /// A fault of one call: when it shows, what is then wrong, and what the smallest call is like.
 struct Planted {
@@ -56,11 +57,11 @@ const QUIET: u64 = 1 << 51;
 /// Of the first 64 shapes none has more than nine dimensions, and of those past them one.
 fn only_later_is_large(c: &Plain) -> bool {
     let is_large = |s: &[u64]| s[0] > 9;
-    let mut shapes = c.lists[0].chunks_exact(5);
+    let mut shapes = c.lists[0].chunks_exact(6);
     !shapes.by_ref().take(64).any(is_large) && shapes.any(is_large)
 }
 
-const FAULTS: [Planted; 13] = [
+const FAULTS: [Planted; 17] = [
     Planted {
         op: GENERAL_PRODUCT,
         when: "e1 is multiplied by e2",
@@ -85,7 +86,7 @@ const FAULTS: [Planted; 13] = [
     Planted {
         op: TRY_FROM_STR,
         when: "a 5 is in the text",
-        spoil: |c, m| flip(m.returned == 0 && c.words.contains(&b'5'.into()), &mut m.bytes, 1),
+        spoil: |c, m| flip(m.returned == 0 && c.words.contains(&b'5'.into()), &mut m.bytes, 2),
         is_small: |c| c.words == b"Cl5".map(u64::from),
     },
     Planted {
@@ -134,7 +135,31 @@ const FAULTS: [Planted; 13] = [
         op: VALUE_AT,
         when: "a shape past the 64th has more than nine dimensions, and only that",
         spoil: |c, m| m.returned += only_later_is_large(c) as i64,
-        is_small: |c| c.words == [0] && c.lists[0].len() == 325 && c.lists[0].iter().sum::<u64>() == 10,
+        is_small: |c| c.words == [0] && c.lists[0].len() == 390 && c.lists[0].iter().sum::<u64>() == 10,
+    },
+    Planted {
+        op: MUL,
+        when: "the right value's mark is looked at",
+        spoil: |c, m| m.returned += (m.returned == 0 && c.marks[1] > 0) as i64,
+        is_small: |c| c.words == [0; 10] && c.marks == [0, 1] && c.lists == [[ZERO], [ZERO]] && c.rooms == [1, 0],
+    },
+    Planted {
+        op: METRIC,
+        when: "the dimensions beside the flavor are looked at",
+        spoil: |c, m| m.returned += (c.words[0] > 9) as i64,
+        is_small: |c| c.words == [10, 0, 0, 0, 0, 0],
+    },
+    Planted {
+        op: WRITE,
+        when: "a mark in the list of shapes is looked at",
+        spoil: |c, m| m.returned += (m.returned == 0 && c.lists[0].chunks_exact(6).any(|s| s[5] > 0)) as i64,
+        is_small: |c| c.lists[0] == [0, 0, 0, 0, 0, 1] && c.lists[1] == [ZERO] && c.rooms[0] == 19,
+    },
+    Planted {
+        op: READ,
+        when: "a second shape is reported with a mark",
+        spoil: |_, m| flip(m.returned == 0 && m.counts.bits(AROUND) > 1, &mut m.shapes, 11),
+        is_small: |c| c.lists[0].len() == 32 && c.lists[0].iter().sum::<u64>() == 4 && c.rooms == [2, 12],
     },
     Planted {
         op: READ,
@@ -148,17 +173,18 @@ const FAULTS: [Planted; 13] = [
 
 /// Draws calls until one differs, and says whether it is made as small as it can be.
 fn check_one(fault: &Planted, seed: u64) {
-    let port = |asked: &Asked, mark: u8| {
-        let mut m = actual(asked, mark);
+    let port = |asked: &Asked, fill: u8| {
+        let mut m = actual(asked, fill);
         if asked.op() == fault.op {
             (fault.spoil)(&Plain::of(asked), &mut m);
         }
         m
     };
-    let (mut comparison, mut r) = (Comparison::new(&port, seed), Rng(seed));
+    let (mut comparison, mut r) = (Comparison::new(&port), Rng(seed));
     for _ in 0..50_000 {
         if comparison.first().is_none() {
-            comparison.call(drawn(&mut r, fault.op));
+            let asked = drawn(&mut r, fault.op);
+            comparison.call(spelled(&mut r, asked));
         }
     }
     let name = known(fault.op).name;
@@ -181,15 +207,15 @@ fn check_one(fault: &Planted, seed: u64) {
 
 /// A port that returns another number always: of each call no answer agrees, and the first is made small.
 fn every_call(seed: u64) {
-    let port = |asked: &Asked, mark: u8| {
-        let mut m = actual(asked, mark);
+    let port = |asked: &Asked, fill: u8| {
+        let mut m = actual(asked, fill);
         m.returned += 1;
         m
     };
     let mut r = Rng(seed);
     let (mut apart, mut small) = (0, 0);
     for op in numbers() {
-        let mut comparison = Comparison::new(&port, seed);
+        let mut comparison = Comparison::new(&port);
         for _ in 0..20 {
             comparison.call(drawn(&mut r, op));
         }

@@ -1,7 +1,8 @@
 //! A call and its answers, for a person to read: every number with its bits.
 use super::asked::Asked;
-use super::known::{Lends, Part, known, placed};
-use super::memory::{AROUND, Cell, Cells, LISTS, REFERENCES, marked};
+use super::known::{Part, known, placed, shapes};
+use super::lends::{Lends, REFERENCES};
+use super::memory::{AROUND, Cell, Cells, LISTS, filled};
 use super::run::Difference;
 use crate::line::{Call, SheetCall};
 use crate::sheets::{NUMBERS_OF, PATTERNS_OF, READ, VALUE_AT, WRITE};
@@ -30,7 +31,8 @@ fn list(name: &str, items: Vec<String>) {
 /// The words that go in, by what they are.
 fn words(op: u64, words: &[u64]) -> Vec<String> {
     let part = |(part, at, n): (Part, usize, usize)| match (part, &words[at..at + n]) {
-        (Part::Unused, _) => None,
+        (Part::Beside, [0]) => None,
+        (Part::Beside, w) => Some(format!("dims {} beside a flavor", w[0])),
         (Part::Dims, w) => Some(format!("d {}", w[0])),
         (Part::Flavor, [0, 0, 0, 0]) => Some("Vanilla".to_string()),
         (Part::Flavor, [1, 0, 0, 0]) => Some("Projective".to_string()),
@@ -52,6 +54,9 @@ pub fn call(asked: &Asked) {
     let numbers = |list: &[f64]| list.iter().map(|x| x.text()).collect::<Vec<_>>();
     match asked {
         Asked::Values(c) => {
+            for (name, mark) in ["mark", "mark of the second"].iter().zip(c.marks).take(shapes(c.op)) {
+                println!("      {name} {mark}");
+            }
             for (name, given) in [("a", &c.a), ("b", &c.b)].into_iter().filter(|(_, given)| !given.is_empty()) {
                 list(name, numbers(given));
             }
@@ -80,23 +85,13 @@ pub fn call(asked: &Asked) {
 
 /// The names of the references in each of the first lists.
 fn references(lends: Lends) -> [&'static [&'static str]; REFERENCES] {
-    const SHAPES: [&str; 10] = [
-        "to_dims",
-        "to_kind",
-        "to_p",
-        "to_n",
-        "to_z",
-        "to_dims_right",
-        "to_kind_right",
-        "to_p_right",
-        "to_n_right",
-        "to_z_right",
-    ];
+    const SHAPE: [&str; 6] = ["to_dims", "to_kind", "to_p", "to_n", "to_z", "to_mark"];
+    const RIGHT: [&str; 6] =
+        ["to_dims_right", "to_kind_right", "to_p_right", "to_n_right", "to_z_right", "to_mark_right"];
     let bytes: &[&str] = match lends {
-        Lends::OnlyFlavor | Lends::Flavor => &["to_kind", "to_p", "to_n", "to_z"],
         Lends::Yes => &["to_yes"],
         Lends::Test => &["to_test"],
-        _ => &SHAPES,
+        _ => &SHAPE,
     };
     let counts: &[&str] = match lends {
         Lends::Start => &["to_start", "to_count"],
@@ -105,7 +100,7 @@ fn references(lends: Lends) -> [&'static [&'static str]; REFERENCES] {
         _ => &["to_count"],
     };
     let values: &[&str] = if lends == Lends::Test { &["to_re", "to_im"] } else { &["to_value"] };
-    [bytes, counts, &["to_pairs"], &["to_order"], values]
+    [bytes, &RIGHT, counts, &["to_pairs"], &["to_order"], values]
 }
 
 /// The name of a cell: a reference's, or the output's with the place; before and after what is lent there are cells too.
@@ -118,13 +113,13 @@ fn cell_name(lends: Lends, which: usize, room: usize, i: usize) -> String {
     }
 }
 
-fn cell(cells: &dyn Cells, i: usize, mark: u8) -> String {
-    let is_marked = cells.bits(i) == marked(mark) & (cells.top() | (cells.top() - 1));
-    if is_marked { "as it was".to_string() } else { cells.text(i) }
+fn cell(cells: &dyn Cells, i: usize, fill: u8) -> String {
+    let is_filled = cells.bits(i) == filled(fill) & (cells.top() | (cells.top() - 1));
+    if is_filled { "as it was".to_string() } else { cells.text(i) }
 }
 
 /// Both answers: all that is returned and lent, as far as it is little, and every cell that differs.
-pub fn both(asked: &Asked, Difference { mut wanted, mut given, mark }: Difference) {
+pub fn both(asked: &Asked, Difference { mut wanted, mut given, fill }: Difference) {
     let (lends, has_nan_bits) = (known(asked.op()).lends, wanted.has_nan_bits);
     line("returned", wanted.returned.to_string(), given.returned.to_string());
     if !given.kept {
@@ -134,7 +129,7 @@ pub fn both(asked: &Asked, Difference { mut wanted, mut given, mark }: Differenc
         for i in 0..right.len() {
             let is_shown = (AROUND..AROUND + right.room().min(FEW)).contains(&i);
             if is_shown || !same(right, other, i, has_nan_bits) {
-                line(&cell_name(lends, which, right.room(), i), cell(right, i, mark), cell(other, i, mark));
+                line(&cell_name(lends, which, right.room(), i), cell(right, i, fill), cell(other, i, fill));
             }
         }
     }

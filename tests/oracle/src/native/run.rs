@@ -1,45 +1,43 @@
 //! The comparison: each call by the Rust and by the exports; the first difference is made small and shown.
+use super::actual::actual;
 use super::asked::Asked;
+use super::calls;
 use super::expected::expected;
-use super::exports::actual;
 use super::known::{MANY, known, numbers, row};
-use super::memory::{MARKS, Memory};
-use super::more_lists::spelled;
+use super::memory::{FILLS, Memory};
 use super::table::Table;
 use super::{print, shrink};
-use crate::numbers::Rng;
 use crate::sheets::READ;
 use std::panic::{AssertUnwindSafe, catch_unwind};
 
 /// The least number of calls that a comparison is made of, however few are drawn.
-const LEAST: u64 = 1_000_000;
+const LEAST: u64 = 2_500_000;
 
-/// The side that is compared with the Rust: what it returns and leaves in memory that has a mark.
+/// The side that is compared with the Rust: what it returns and leaves in memory that is filled.
 pub type Port<'a> = &'a dyn Fn(&Asked, u8) -> Memory;
 
 /// What must be returned and left; none where the Rust panics.
-fn wanted(asked: &Asked, mark: u8) -> Option<Memory> {
-    catch_unwind(AssertUnwindSafe(|| expected(asked, mark))).ok()
+fn wanted(asked: &Asked, fill: u8) -> Option<Memory> {
+    catch_unwind(AssertUnwindSafe(|| expected(asked, fill))).ok()
 }
 
-/// What must be left, what is left, and the mark that was there before.
+/// What must be left, what is left, and the fill that was there before.
 pub struct Difference {
     pub wanted: Memory,
     pub given: Memory,
-    pub mark: u8,
+    pub fill: u8,
 }
 
-/// Where the port differs from the Rust, with one mark or the other.
+/// Where the port differs from the Rust, with one fill or the other.
 pub fn difference(port: Port, asked: &Asked) -> Option<Difference> {
-    MARKS.into_iter().find_map(|mark| {
-        let (wanted, given) = (wanted(asked, mark)?, port(asked, mark));
-        (!wanted.same(&given)).then_some(Difference { wanted, given, mark })
+    FILLS.into_iter().find_map(|fill| {
+        let (wanted, given) = (wanted(asked, fill)?, port(asked, fill));
+        (!wanted.same(&given)).then_some(Difference { wanted, given, fill })
     })
 }
 
 pub struct Comparison<'a> {
     port: Port<'a>,
-    spelling: Rng,
     made: u64,
     agree: u64,
     table: Table,
@@ -52,33 +50,22 @@ pub struct Comparison<'a> {
 }
 
 impl<'a> Comparison<'a> {
-    pub fn new(port: Port<'a>, seed: u64) -> Self {
+    pub fn new(port: Port<'a>) -> Self {
         let (made, agree, good, malformed) = (0, 0, 0, 0);
-        Comparison {
-            port,
-            spelling: Rng(seed),
-            made,
-            agree,
-            table: Table::new(),
-            good,
-            malformed,
-            first: None,
-            differ: [0; MANY],
-        }
+        Comparison { port, made, agree, table: Table::new(), good, malformed, first: None, differ: [0; MANY] }
     }
-    /// Compares one call, its flavors spelled in this way or that, with either mark in turn.
+    /// Compares one call, with either fill in turn, in an order that no list has.
     pub fn call(&mut self, asked: Asked) {
-        let asked = spelled(&mut self.spelling, asked);
         self.made += 1;
-        let mark = MARKS[(self.made % 2) as usize];
-        let Some(wanted) = wanted(&asked, mark) else {
+        let fill = FILLS[(self.made.count_ones() % 2) as usize];
+        let Some(wanted) = wanted(&asked, fill) else {
             return self.differs(asked);
         };
         if asked.op() == READ {
             *(if wanted.returned == 9 { &mut self.malformed } else { &mut self.good }) += 1
         }
         self.table.count(&asked, wanted.is_refused(known(asked.op()).lends));
-        if wanted.same(&(self.port)(&asked, mark)) { self.agree += 1 } else { self.differs(asked) }
+        if wanted.same(&(self.port)(&asked, fill)) { self.agree += 1 } else { self.differs(asked) }
     }
     fn differs(&mut self, asked: Asked) {
         self.differ[row(asked.op())] += 1;
@@ -105,10 +92,11 @@ impl<'a> Comparison<'a> {
             println!("  that differ, of each call: {}", some.collect::<Vec<_>>().join(", "));
         }
         self.table.print();
-        let missing = self.table.missing();
+        let missing = self.table.missing(calls::CALLS);
         match missing.is_empty() {
             true => println!(
-                "ok: each of the {MANY} calls was compared, and with each d from 0 to 9 where it has dimensions"
+                "ok: each of the {} exported calls was compared, and with each d from 0 to 9 where it has dimensions",
+                calls::CALLS.len()
             ),
             false => println!("FAILED: never compared: {}", missing.join(", ")),
         }
@@ -137,7 +125,7 @@ fn show(port: Port, number: u64, asked: &Asked, seed: u64) {
 /// Every call by the exports.
 pub fn compare(count: u64, seed: u64) {
     println!("{count} calls of each kind are drawn from seed {seed}");
-    let mut comparison = Comparison::new(&actual, seed);
+    let mut comparison = Comparison::new(&actual);
     super::lists::compared(count, seed, &mut |asked| comparison.call(asked));
     comparison.says(count, seed);
 }

@@ -38,23 +38,24 @@ impl Table {
         let columns: Vec<u64> = (0..=NONE).map(|d| self.all.iter().map(|row| row[d]).sum()).collect();
         line("every call", &columns, self.refused.iter().flatten().sum());
     }
-    /// The calls of which none that is done was compared, or none with some number of dimensions that it can have.
-    pub fn missing(&self) -> Vec<String> {
+    /// Of the calls that are listed those of which none that is done was compared, or none with some number of dimensions that it can have.
+    pub fn missing(&self, listed: &[&str]) -> Vec<String> {
         let mut list = vec![];
-        for op in numbers() {
-            let (all, refused, name) = (&self.all[row(op)], &self.refused[row(op)], known(op).name);
-            if all == refused {
-                list.push(name.to_string());
-            }
-            if has_dims(op) {
-                list.extend(
-                    (can_be_done_from(op)..NONE)
-                        .filter(|d| all[*d] == refused[*d])
-                        .map(|d| format!("{name} with d = {d}")),
-                );
+        for name in listed {
+            match numbers().find(|op| known(*op).name == *name) {
+                Some(op) => list.extend(self.missing_of(op)),
+                None => list.push(name.to_string()),
             }
         }
         list
+    }
+    fn missing_of(&self, op: u64) -> Vec<String> {
+        let (all, refused, name) = (&self.all[row(op)], &self.refused[row(op)], known(op).name);
+        let dims = if has_dims(op) { can_be_done_from(op)..NONE } else { 0..0 };
+        let none = (all == refused).then(|| name.to_string());
+        none.into_iter()
+            .chain(dims.filter(|d| all[*d] == refused[*d]).map(|d| format!("{name} with d = {d}")))
+            .collect()
     }
 }
 
