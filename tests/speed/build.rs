@@ -1,4 +1,4 @@
-// Links the archive of the crate `exports`: $THRESHOLM_ARCHIVE, or the one that tools/native-archive makes.
+// Links the archive of the proved library: $THRESHOLM_ARCHIVE, or the one that tools/native-archive makes.
 use std::path::{Path, PathBuf};
 use std::process::{Command, Stdio};
 use std::{env, fs};
@@ -8,11 +8,7 @@ fn made(root: &Path) -> PathBuf {
     for source in ["crates", "crates.txt", "tools/native-archive"] {
         println!("cargo:rerun-if-changed={}", root.join(source).display());
     }
-    let tool = Command::new("bash")
-        .args(["tools/native-archive", "exports"])
-        .current_dir(root)
-        .stderr(Stdio::inherit())
-        .output();
+    let tool = Command::new("bash").arg("tools/native-archive").current_dir(root).stderr(Stdio::inherit()).output();
     let said = tool.expect("bash is available");
     assert!(said.status.success(), "tools/native-archive made no archive");
     let lines = String::from_utf8(said.stdout).expect("text");

@@ -2,9 +2,9 @@
 use crate::measure::{self, INPUTS, Timed};
 use crate::sys;
 use crate::table::{Lone, Row};
-use crate::values::{Lent, dense, lists};
+use crate::values::{Lent, lists, shape};
 use std::hint::black_box;
-use uiua_parser::Flavor::Projective;
+use uiua_parser::Flavor::{Projective, Vanilla};
 
 /// Times a call, after it was done for every input.
 fn timed(ours: impl Fn(usize, &mut Lent) -> u8) -> Timed {
@@ -18,40 +18,17 @@ fn timed(ours: impl Fn(usize, &mut Lent) -> u8) -> Timed {
     }))
 }
 
-/// A call that answers one shape, none of which is refused.
-macro_rules! shaped {
-    ($call:ident $(, $given:expr)*) => {
-        timed(|_, to| {
-            let [dims, kind, p, n, z] = &mut to.shape;
-            unsafe { sys::$call($(black_box($given),)* dims, kind, p, n, z) };
-            0
-        })
-    };
-}
-
-fn refusal_of(d: u8) -> Timed {
-    timed(|_, _| unsafe { sys::thresholm_refusal_of(black_box(d), d, 1 << d, 1 << d, 1 << d) })
-}
-
-fn value_refusal(d: u8) -> Timed {
-    timed(|_, _| unsafe { sys::thresholm_value_refusal(black_box(d), 1 << d) })
-}
-
-fn pair_refusal(d: u8) -> Timed {
-    timed(|_, _| unsafe { sys::thresholm_pair_refusal(black_box(d), d, d, 1 << d, 1 << d, 1 << d) })
-}
-
-fn null_flavor(_: u8) -> Timed {
+fn version(_: u8) -> Timed {
     timed(|_, to| {
-        let [_, kind, p, n, z] = &mut to.shape;
-        unsafe { sys::thresholm_null_flavor(kind, p, n, z) };
+        to.pairs = unsafe { sys::thresholm_version() };
         0
     })
 }
 
 fn promotion(_: u8) -> Timed {
+    let (flavor, new_flavor) = (shape(0, Vanilla), shape(0, Projective));
     timed(|_, to| {
-        to.test = unsafe { sys::thresholm_promotion(black_box(0), 0, 0, 0, 1, 0, 0, 0) };
+        to.test = unsafe { sys::thresholm_promotion(flavor.as_ptr(), new_flavor.as_ptr()) };
         0
     })
 }
@@ -68,17 +45,9 @@ fn order_of(d: u8) -> Timed {
     })
 }
 
-fn grade_refusal(d: u8) -> Timed {
-    let v = dense(Projective, d);
-    timed(|i, _| {
-        let a = &v.numbers[i];
-        unsafe { sys::thresholm_grade_refusal(d, v.kind(), 0, 0, 0, d / 2, a.as_ptr(), a.len()) }
-    })
-}
-
 /// The bytes of four Projective values' shapes.
 fn four_shapes(d: u8) -> Vec<u8> {
-    [d, 1, 0, 0, 0].repeat(4)
+    shape(d, Projective).repeat(4)
 }
 
 fn write_four(shapes: &[u8], patterns: &[u64], to: &mut Lent) -> u8 {
@@ -100,8 +69,15 @@ fn read(d: u8) -> Timed {
     }
     let bytes = &sheet.bytes[..sheet.count];
     timed(|_, to| {
-        let (out, room) = (to.patterns.as_mut_ptr(), to.patterns.len());
-        unsafe { sys::thresholm_read(bytes.as_ptr(), bytes.len(), out, room, &mut to.start, &mut to.count) }
+        let (shapes, out) = (&mut to.shapes[..], &mut to.patterns[..]);
+        #[rustfmt::skip]
+        let number = unsafe {
+            sys::thresholm_read(
+                bytes.as_ptr(), bytes.len(), shapes.as_mut_ptr(), shapes.len(), out.as_mut_ptr(), out.len(),
+                &mut to.start, &mut to.count,
+            )
+        };
+        number
     })
 }
 
@@ -113,8 +89,8 @@ fn write(d: u8) -> Timed {
 fn value_at(d: u8) -> Timed {
     let shapes = four_shapes(d);
     timed(|i, to| {
-        let [dims, kind, p, n, z] = &mut to.shape;
-        unsafe { sys::thresholm_value_at(shapes.as_ptr(), shapes.len(), i % 4, dims, kind, p, n, z, &mut to.start) }
+        let shape = to.shape.as_mut_ptr();
+        unsafe { sys::thresholm_value_at(shapes.as_ptr(), shapes.len(), i % 4, shape, &mut to.start) }
     })
 }
 
@@ -134,29 +110,12 @@ fn patterns_of(d: u8) -> Timed {
     })
 }
 
-const REFUSALS: &str = "the Rust refuses nothing: it panics or goes on";
-const NAMES: &str = "it only names a shape; in the Rust the value has its own";
 const SHEETS: &str = "the Rust has no sheets";
 const ORDER: &str =
     "the Rust builds its tables once in a thread and looks them up from then on; here every call builds them";
 
 pub const ROWS: &[Lone] = &[
-    Lone { row: Row { call: "refusal_of", of: "", at: refusal_of }, why: REFUSALS },
-    Lone { row: Row { call: "value_refusal", of: "", at: value_refusal }, why: REFUSALS },
-    Lone { row: Row { call: "pair_refusal", of: "", at: pair_refusal }, why: REFUSALS },
-    Lone { row: Row { call: "grade_refusal", of: "grade d / 2", at: grade_refusal }, why: REFUSALS },
-    Lone { row: Row { call: "refused", of: "", at: |_| shaped!(thresholm_refused, 0) }, why: NAMES },
-    Lone { row: Row { call: "done", of: "", at: |d| shaped!(thresholm_done, d, 1, 0, 0, 0) }, why: NAMES },
-    Lone { row: Row { call: "shape_of", of: "", at: |d| shaped!(thresholm_shape_of, d, 1, 0, 0, 0) }, why: NAMES },
-    Lone {
-        row: Row { call: "with_dims", of: "", at: |d| shaped!(thresholm_with_dims, d, 1, 0, 0, 0, d + 1) },
-        why: NAMES,
-    },
-    Lone {
-        row: Row { call: "with_flavor", of: "", at: |d| shaped!(thresholm_with_flavor, d, 1, 0, 0, 0, 0, 0, 0, 0) },
-        why: NAMES,
-    },
-    Lone { row: Row { call: "null_flavor", of: "", at: null_flavor }, why: "a constant in the Rust" },
+    Lone { row: Row { call: "version", of: "", at: version }, why: "the Rust says no version" },
     Lone {
         row: Row { call: "promotion", of: "Vanilla to Projective", at: promotion },
         why: "part of the Rust's `set_flavor`",
@@ -169,3 +128,6 @@ pub const ROWS: &[Lone] = &[
     Lone { row: Row { call: "numbers_of", of: "2^d patterns", at: numbers_of }, why: SHEETS },
     Lone { row: Row { call: "patterns_of", of: "2^d numbers", at: patterns_of }, why: SHEETS },
 ];
+
+/// What is in the time of every call: the loop and its inputs.
+pub const LOOP: Row = Row { call: "no call", of: "the loop alone", at: |_| timed(|_, _| 0) };

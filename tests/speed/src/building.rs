@@ -2,52 +2,50 @@
 use crate::measure::Timed;
 use crate::sys;
 use crate::table::Row;
-use crate::values::{Lent, cell, dense, kind, lists, same_list, same_value};
+use crate::values::{Lent, cell, dense, lists, same_list, same_value, shape};
 use uiua::SubSide::{Left, Right};
-use uiua_parser::Flavor::{self, Projective};
+use uiua_parser::Flavor::Projective;
 use uiua_parser::multivector::Multivector;
 
 fn vector(d: u8) -> Timed {
-    let v = lists(d as usize);
-    cell(|i| Multivector::vector(&v[i][..], Projective), built!(thresholm_vector, v, Projective), same_value)
+    let (v, flavor) = (lists(d as usize), shape(0, Projective));
+    cell(|i| Multivector::vector(&v[i][..], Projective), built!(thresholm_vector, v => flavor), same_value)
 }
 
 fn n_1_blades(d: u8) -> Timed {
-    let v = lists(d as usize);
-    cell(|i| Multivector::n_1_blades(&v[i][..], Projective), built!(thresholm_n_1_blades, v, Projective), same_value)
+    let (v, flavor) = (lists(d as usize), shape(0, Projective));
+    cell(|i| Multivector::n_1_blades(&v[i][..], Projective), built!(thresholm_n_1_blades, v => flavor), same_value)
 }
 
 /// Projective, so the value has one dimension more than is stated.
 fn scalar(d: u8) -> Timed {
-    let x = lists(1);
+    let (x, stated) = (lists(1), shape(d - 1, Projective));
     let ours = |i: usize, to: &mut Lent| {
-        let [dims, k, p, n, z] = &mut to.shape;
         let (out, room) = (to.out.as_mut_ptr(), to.out.len());
-        unsafe { sys::thresholm_scalar(d - 1, x[i][0], kind(Projective), 0, 0, 0, out, room, dims, k, p, n, z) }
+        unsafe { sys::thresholm_scalar(stated.as_ptr(), x[i][0], out, room, to.shape.as_mut_ptr()) }
     };
     cell(|i| Multivector::scalar(d - 1, x[i][0], Projective), ours, same_value)
 }
 
 fn pseudoscalar(d: u8) -> Timed {
-    let x = lists(1);
+    let (x, stated) = (lists(1), shape(d - 1, Projective));
     let ours = |i: usize, to: &mut Lent| {
-        let [dims, k, p, n, z] = &mut to.shape;
         let (out, room) = (to.out.as_mut_ptr(), to.out.len());
-        unsafe { sys::thresholm_pseudoscalar(d - 1, x[i][0], kind(Projective), 0, 0, 0, out, room, dims, k, p, n, z) }
+        unsafe { sys::thresholm_pseudoscalar(stated.as_ptr(), x[i][0], out, room, to.shape.as_mut_ptr()) }
     };
     cell(|i| Multivector::pseudoscalar(d - 1, x[i][0], Projective), ours, same_value)
 }
 
 fn blades_left(d: u8, count: usize) -> Timed {
-    let (v, flavor): (_, Flavor) = (lists(count), Projective);
-    let theirs = |i: usize| Multivector::blades_left(d, &v[i][..], flavor).unwrap();
-    cell(theirs, built!(thresholm_blades_left, v, flavor, d), same_value)
+    let (v, stated) = (lists(count), shape(d, Projective));
+    let theirs = |i: usize| Multivector::blades_left(d, &v[i][..], Projective).unwrap();
+    cell(theirs, built!(thresholm_blades_left, stated, v), same_value)
 }
 
 fn blades_right(d: u8, count: usize) -> Timed {
-    let (v, flavor): (_, Flavor) = (lists(count), Projective);
-    let theirs = |i: usize| Multivector::blades_right(d, &v[i][..], flavor).unwrap();
-    cell(theirs, built!(thresholm_blades_right, v, flavor, d), same_value)
+    let (v, stated) = (lists(count), shape(d, Projective));
+    let theirs = |i: usize| Multivector::blades_right(d, &v[i][..], Projective).unwrap();
+    cell(theirs, built!(thresholm_blades_right, stated, v), same_value)
 }
 
 fn unpack_all(d: u8, stated: u8) -> Timed {

@@ -2,16 +2,8 @@
 use crate::measure::{INPUTS, Timed};
 use crate::sys;
 use crate::table::Row;
-use crate::values::{Lent, cell};
+use crate::values::{Lent, Shape, cell, shape};
 use uiua_parser::Flavor::{self, Cl, Projective, Vanilla};
-
-fn words(flavor: Flavor) -> [u8; 4] {
-    match flavor {
-        Vanilla => [0, 0, 0, 0],
-        Projective => [1, 0, 0, 0],
-        Cl(p, n, z) => [2, p, n, z],
-    }
-}
 
 /// Flavors of every kind in rotation.
 fn every() -> Vec<Flavor> {
@@ -20,10 +12,9 @@ fn every() -> Vec<Flavor> {
 
 fn metric() -> Timed {
     let flavors = every();
-    let given: Vec<[u8; 4]> = flavors.iter().map(|f| words(*f)).collect();
+    let given: Vec<Shape> = flavors.iter().map(|f| shape(0, *f)).collect();
     let ours = |i: usize, to: &mut Lent| {
-        let [kind, p, n, z] = given[i];
-        to.order = unsafe { sys::thresholm_metric(kind, p, n, z, i as u8 % 9) };
+        to.order = unsafe { sys::thresholm_metric(given[i].as_ptr(), i as u8 % 9) };
         0
     };
     cell(|i| flavors[i].metric(i as u8 % 9), ours, |m, to| *m == to.order as i32)
@@ -31,10 +22,9 @@ fn metric() -> Timed {
 
 fn added_dims() -> Timed {
     let flavors = every();
-    let given: Vec<[u8; 4]> = flavors.iter().map(|f| words(*f)).collect();
+    let given: Vec<Shape> = flavors.iter().map(|f| shape(0, *f)).collect();
     let ours = |i: usize, to: &mut Lent| {
-        let [kind, p, n, z] = given[i];
-        to.test = unsafe { sys::thresholm_added_dims(kind, p, n, z) };
+        to.test = unsafe { sys::thresholm_added_dims(given[i].as_ptr()) };
         0
     };
     cell(|i| flavors[i].dim_adjustment(), ours, |n, to| *n == to.test)
@@ -42,19 +32,18 @@ fn added_dims() -> Timed {
 
 fn try_from_str(text: &'static str) -> Timed {
     let texts = [text; INPUTS];
-    let ours = |i: usize, to: &mut Lent| {
-        let [_, kind, p, n, z] = &mut to.shape;
-        unsafe { sys::thresholm_try_from_str(texts[i].as_ptr(), texts[i].len(), kind, p, n, z) }
+    let ours = |i: usize, to: &mut Lent| unsafe {
+        sys::thresholm_try_from_str(texts[i].as_ptr(), texts[i].len(), to.shape.as_mut_ptr())
     };
-    let agree = |f: &Flavor, to: &Lent| to.shape[1..] == words(*f);
+    let agree = |f: &Flavor, to: &Lent| to.shape == shape(0, *f);
     cell(|i| Flavor::try_from_str(texts[i]).unwrap().unwrap(), ours, agree)
 }
 
 fn write_to(flavor: Flavor) -> Timed {
-    let flavors = [flavor; INPUTS];
+    let (flavors, given) = ([flavor; INPUTS], [shape(0, flavor); INPUTS]);
     let ours = |i: usize, to: &mut Lent| {
-        let [kind, p, n, z] = words(flavors[i]);
-        unsafe { sys::thresholm_write_to(kind, p, n, z, to.bytes.as_mut_ptr(), to.bytes.len(), &mut to.count) }
+        let (out, room) = (to.bytes.as_mut_ptr(), to.bytes.len());
+        unsafe { sys::thresholm_write_to(given[i].as_ptr(), out, room, &mut to.count) }
     };
     cell(|i| flavors[i].to_string(), ours, |text, to| *text.as_bytes() == to.bytes[..to.count])
 }

@@ -9,8 +9,7 @@ const LEAST_CALLS: usize = 8;
 const MOST_CALLS: usize = 1 << 20;
 /// How many turns each side has in a pass.
 const TURNS: usize = 20;
-/// A call is steady after so many passes, where on each side the two fastest are within this part of each other.
-const LEAST_PASSES: usize = 5;
+/// A call is steady where on each side the two fastest passes are within this part of each other.
 const STEADY: f64 = 0.02;
 
 /// Nanoseconds for a call in one pass: the fastest turn of each side, since other work on the machine only adds time.
@@ -52,8 +51,9 @@ impl Cell {
         let theirs = if self.theirs.is_empty() { 0.0 } else { apart(&self.theirs) };
         apart(&self.ours).max(theirs)
     }
-    pub fn is_steady(&self) -> bool {
-        self.ours.len() >= LEAST_PASSES && self.spread() <= STEADY
+    /// It has had so many passes, and is steady.
+    pub fn is_steady(&self, passes: usize) -> bool {
+        self.ours.len() >= passes && self.spread() <= STEADY
     }
 }
 

@@ -2,7 +2,7 @@
 use crate::measure::{INPUTS, Timed};
 use crate::sys;
 use crate::table::Row;
-use crate::values::{Lent, Values, cell, dense, kind, same, same_numbers, same_value, same_values};
+use crate::values::{Lent, Values, cell, dense, same, same_numbers, same_value, same_values, shape};
 use std::hint::black_box;
 use uiua_parser::Flavor::{self, Projective, Vanilla};
 use uiua_parser::grade_size as rust_grade_size;
@@ -25,27 +25,25 @@ fn set_dims(d: u8, new: u8) -> Timed {
 }
 
 fn set_flavor(v: Values, new: Flavor) -> Timed {
-    let theirs = |i| changed(v.own(i), |m| m.set_flavor(new));
-    cell(theirs, one!(thresholm_set_flavor, v, kind(new), 0, 0, 0), same_value)
+    let (theirs, flavor) = (|i| changed(v.own(i), |m| m.set_flavor(new)), shape(0, new));
+    cell(theirs, one!(thresholm_set_flavor, v, flavor.as_ptr()), same_value)
 }
 
 fn conform_to(v: Values, w: Values) -> Timed {
     let theirs = |i| changed(v.own(i), |m| harness::conform_to(m, &w.values[i]));
-    cell(theirs, one!(thresholm_conform_to, v, w.dims, w.kind(), 0, 0, 0), same_value)
+    cell(theirs, one!(thresholm_conform_to, v, w.shape.as_ptr()), same_value)
 }
 
 /// Ours writes both values to lent outputs.
 fn conform_ours(v: &Values, w: &Values, i: usize, to: &mut Lent) -> u8 {
     let (a, b) = (&v.numbers[i], &w.numbers[(i + 1) % INPUTS]);
-    let [dims, kind, p, n, z] = &mut to.shape;
-    let [dims_right, kind_right, p_right, n_right, z_right] = &mut to.shape_right;
     let (out, right) = (&mut to.out[..], &mut to.right[..]);
+    let (shape, shape_right) = (to.shape.as_mut_ptr(), to.shape_right.as_mut_ptr());
     #[rustfmt::skip]
     let number = unsafe {
         sys::thresholm_conform(
-            v.dims, v.kind(), 0, 0, 0, w.dims, w.kind(), 0, 0, 0, a.as_ptr(), a.len(), b.as_ptr(), b.len(),
-            out.as_mut_ptr(), out.len(), right.as_mut_ptr(), right.len(),
-            dims, kind, p, n, z, dims_right, kind_right, p_right, n_right, z_right,
+            v.shape.as_ptr(), w.shape.as_ptr(), a.as_ptr(), a.len(), b.as_ptr(), b.len(),
+            out.as_mut_ptr(), out.len(), right.as_mut_ptr(), right.len(), shape, shape_right,
         )
     };
     number

@@ -8,8 +8,10 @@ const DIMS: [u8; 5] = [2, 3, 4, 5, 6];
 const SHOWN: usize = 2;
 /// What is above this is in bold.
 const SLOW: f64 = 1.5;
-/// How often a call that is not steady is timed at most.
-const MOST_PASSES: usize = 20;
+/// How often a call is timed at least, and one that is not steady at most.
+const PASSES: [usize; 2] = [5, 20];
+/// The same for calls that are named: a few nanoseconds need more.
+const NAMED_PASSES: [usize; 2] = [40, 80];
 
 /// A call that the Rust has too.
 pub struct Row {
@@ -45,21 +47,20 @@ fn lines() -> [Vec<Line>; 3] {
     ]
 }
 
-/// Every declared call must be in one of the tables.
-fn complete(tables: &[Vec<Line>; 3], declarations: &str) -> Result<(), String> {
-    let names = declarations.split("fn thresholm_").skip(1).map(|rest| rest.split('(').next().unwrap());
-    let declared: BTreeSet<&str> = names.collect();
+/// Every call that is listed must be in one of the tables.
+fn complete(tables: &[Vec<Line>; 3], listed: &[&'static str]) -> Result<(), String> {
+    let listed: BTreeSet<&str> = listed.iter().copied().collect();
     let timed: BTreeSet<&str> = tables.iter().flatten().map(|l| l.row.call).collect();
-    let missing: Vec<&&str> = declared.symmetric_difference(&timed).collect();
-    if missing.is_empty() { Ok(()) } else { Err(format!("declared or timed, and not both: {missing:?}")) }
+    let missing: Vec<&&str> = listed.symmetric_difference(&timed).collect();
+    if missing.is_empty() { Ok(()) } else { Err(format!("listed or timed, and not both: {missing:?}")) }
 }
 
-/// Times everything that is not steady yet; says how many that were.
-fn pass(tables: &mut [Vec<Line>; 3]) -> Result<usize, String> {
+/// Times everything that is not steady yet, once; says how many that were.
+fn pass<'a>(lines: impl Iterator<Item = &'a mut Line>, least: usize) -> Result<usize, String> {
     let mut count = 0;
-    for line in tables.iter_mut().flatten() {
+    for line in lines {
         for (cell, d) in line.cells.iter_mut().zip(DIMS) {
-            if !cell.is_steady() {
+            if !cell.is_steady(least) {
                 let times =
                     (line.row.at)(d).map_err(|why| format!("{} {}, d = {d}: {why}", line.row.call, line.row.of))?;
                 cell.add(times);
@@ -68,6 +69,18 @@ fn pass(tables: &mut [Vec<Line>; 3]) -> Result<usize, String> {
         }
     }
     Ok(count)
+}
+
+/// Times everything until it is steady, in passes of at least and at most so many.
+fn timed(tables: &mut [Vec<Line>], [least, most]: [usize; 2]) -> Result<(), String> {
+    for number in 1..=most {
+        let count = pass(tables.iter_mut().flatten(), least)?;
+        if count == 0 {
+            break;
+        }
+        eprintln!("pass {number} of at most {most}: {count} timed");
+    }
+    Ok(())
 }
 
 /// Nanoseconds, with a decimal where there are few.
@@ -141,23 +154,45 @@ fn processor() -> String {
     line.unwrap_or("a processor without a name").to_string()
 }
 
-/// Measures and prints everything.
-pub fn print(declarations: &str) -> Result<(), String> {
-    let mut tables = lines();
-    complete(&tables, declarations)?;
-    for number in 1..=MOST_PASSES {
-        let count = pass(&mut tables)?;
-        if count == 0 {
-            break;
-        }
-        eprintln!("pass {number} of at most {MOST_PASSES}: {count} timed");
-    }
+/// The machine, and the compiler of the Rust.
+fn print_machine() {
     let machine = std::env::consts::ARCH.replace("x86_64", "x86-64");
     let cores = std::thread::available_parallelism().map_or(1, |n| n.get());
     println!("Made on: {}, {machine}, {cores} cores; the Rust by {}, release.\n", processor(), env!("RUST_VERSION"));
+}
+
+/// Measures and prints everything.
+pub fn print(listed: &[&'static str]) -> Result<(), String> {
+    let mut tables = lines();
+    complete(&tables, listed)?;
+    timed(&mut tables, PASSES)?;
+    print_machine();
     print_compared(&tables[0]);
     print_counts(&tables[0]);
     print_plain(&tables[1]);
     print_alone(&tables[2]);
+    Ok(())
+}
+
+/// The lines of the calls that are named.
+fn named_lines(named: &[String]) -> Result<Vec<Line>, String> {
+    let some: Vec<Line> = lines().into_iter().flatten().filter(|l| named.iter().any(|n| n == l.row.call)).collect();
+    match named.iter().find(|name| some.iter().all(|l| l.row.call != **name)) {
+        Some(name) => Err(format!("no call is named {name}")),
+        None => Ok(some),
+    }
+}
+
+/// Measures and prints the time of the calls that are named, and of the loop without a call, in nanoseconds.
+pub fn print_named(named: &[String]) -> Result<(), String> {
+    let mut tables = [named_lines(named)?, vec![line(&alone::LOOP, "", &DIMS[..1])]];
+    timed(&mut tables, NAMED_PASSES)?;
+    print_machine();
+    println!("| ns of | of what | d = 2 | 3 | 4 | 5 | 6 | spread |\n|---|---|---|---|---|---|---|---|");
+    for l in tables.iter().flatten() {
+        let mut times: Vec<String> = l.cells.iter().map(|c| format!("{:.2}", c.ours())).collect();
+        times.resize(DIMS.len(), String::new());
+        println!("| `{}` | {} | {} | {} |", l.row.call, l.row.of, times.join(" | "), spread(l));
+    }
     Ok(())
 }

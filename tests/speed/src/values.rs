@@ -4,10 +4,9 @@ use std::hint::black_box;
 use uiua_parser::Flavor;
 use uiua_parser::multivector::{Multivector, harness};
 
-/// Values of one shape, Vanilla or Projective: their numbers, and each as the Rust has it.
+/// Values of one shape: their numbers, and each as the Rust has it.
 pub struct Values {
-    pub dims: u8,
-    pub flavor: Flavor,
+    pub shape: Shape,
     pub numbers: Vec<Vec<f64>>,
     pub values: Vec<Multivector>,
 }
@@ -16,8 +15,8 @@ pub struct Values {
 pub struct Lent {
     pub out: Vec<f64>,
     pub right: Vec<f64>,
-    pub shape: [u8; 5],
-    pub shape_right: [u8; 5],
+    pub shape: Shape,
+    pub shape_right: Shape,
     pub pairs: u32,
     pub start: usize,
     pub count: usize,
@@ -26,14 +25,21 @@ pub struct Lent {
     pub test: u8,
     pub order: i8,
     pub bytes: Vec<u8>,
+    pub shapes: Vec<u8>,
     pub patterns: Vec<u64>,
     pub masks: Vec<u16>,
     pub places: Vec<u16>,
 }
 
-/// The kind of a flavor that has no numbers of its own.
-pub fn kind(flavor: Flavor) -> u8 {
-    (flavor == Flavor::Projective) as u8
+/// A shape as the exports take and report it: dims, kind, p, n, z, mark.
+pub type Shape = [u8; 6];
+
+pub fn shape(dims: u8, flavor: Flavor) -> Shape {
+    match flavor {
+        Flavor::Vanilla => [dims, 0, 0, 0, 0, 0],
+        Flavor::Projective => [dims, 1, 0, 0, 0, 0],
+        Flavor::Cl(p, n, z) => [dims, 2, p, n, z, 0],
+    }
 }
 
 /// Numbers from -2 to 2.
@@ -55,7 +61,7 @@ fn filled(flavor: Flavor, dims: u8, filled: usize) -> Values {
         n.resize(1 << dims, 0.0);
     }
     let values = numbers.iter().map(|n| harness::make(flavor, n)).collect();
-    Values { dims, flavor, numbers, values }
+    Values { shape: shape(dims, flavor), numbers, values }
 }
 
 pub fn dense(flavor: Flavor, dims: u8) -> Values {
@@ -72,9 +78,6 @@ pub fn with_inverse(flavor: Flavor, dims: u8) -> Values {
 }
 
 impl Values {
-    pub fn kind(&self) -> u8 {
-        kind(self.flavor)
-    }
     /// The value as the Rust's calls take it: a counted clone, copied where the call changes it.
     pub fn own(&self, i: usize) -> Multivector {
         self.values[i].clone()
@@ -90,8 +93,8 @@ impl Lent {
         Lent {
             out: vec![0.0; 512],
             right: vec![0.0; 512],
-            shape: [0; 5],
-            shape_right: [0; 5],
+            shape: [0; 6],
+            shape_right: [0; 6],
             pairs: 0,
             start: 0,
             count: 0,
@@ -100,6 +103,7 @@ impl Lent {
             test: 0,
             order: 0,
             bytes: vec![0; 33_094],
+            shapes: vec![0; 384],
             patterns: vec![0; 4096],
             masks: vec![0; 512],
             places: vec![0; 512],
@@ -116,8 +120,8 @@ pub fn same_numbers(rust: &[f64], ours: &[f64]) -> bool {
     rust.len() <= ours.len() && rust.iter().zip(ours).all(|(x, y)| same(*x, *y))
 }
 
-fn same_at(m: &Multivector, shape: [u8; 5], out: &[f64]) -> bool {
-    shape == [m.dims(), kind(m.flavor), 0, 0, 0] && same_numbers(harness::coefs(m), out)
+fn same_at(m: &Multivector, reported: Shape, out: &[f64]) -> bool {
+    reported == shape(m.dims(), m.flavor) && same_numbers(harness::coefs(m), out)
 }
 
 pub fn same_value(m: &Multivector, to: &Lent) -> bool {

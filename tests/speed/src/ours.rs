@@ -6,13 +6,9 @@ macro_rules! one {
     ($call:ident, $v:expr $(, $more:expr)* $(; $also:ident)?) => {
         |i: usize, to: &mut Lent| {
             let (v, a) = (&$v, &$v.numbers[i]);
-            let [dims, kind, p, n, z] = &mut to.shape;
             let (out, room) = (to.out.as_mut_ptr(), to.out.len());
-            unsafe {
-                sys::$call(
-                    v.dims, v.kind(), 0, 0, 0, $($more,)* a.as_ptr(), a.len(), out, room, dims, kind, p, n, z $(, &mut to.$also)?
-                )
-            }
+            let shape = to.shape.as_mut_ptr();
+            unsafe { sys::$call(v.shape.as_ptr(), $($more,)* a.as_ptr(), a.len(), out, room, shape $(, &mut to.$also)?) }
         }
     };
 }
@@ -23,13 +19,11 @@ macro_rules! two {
         |i: usize, to: &mut Lent| {
             let (v, w) = (&$v, &$w);
             let (a, b) = (&v.numbers[i], &w.numbers[(i + 1) % INPUTS]);
-            let [dims, kind, p, n, z] = &mut to.shape;
+            let (left, right) = (v.shape.as_ptr(), w.shape.as_ptr());
             let (out, room) = (to.out.as_mut_ptr(), to.out.len());
+            let shape = to.shape.as_mut_ptr();
             unsafe {
-                sys::$call(
-                    v.dims, v.kind(), 0, 0, 0, w.dims, w.kind(), 0, 0, 0, a.as_ptr(), a.len(), b.as_ptr(), b.len(), out, room,
-                    dims, kind, p, n, z $(, &mut to.$also)?
-                )
+                sys::$call(left, right, a.as_ptr(), a.len(), b.as_ptr(), b.len(), out, room, shape $(, &mut to.$also)?)
             }
         }
     };
@@ -40,7 +34,7 @@ macro_rules! asked {
     ($call:ident, $v:expr $(, $more:expr)* ; $($also:ident),*) => {
         |i: usize, to: &mut Lent| {
             let (v, a) = (&$v, &$v.numbers[i]);
-            unsafe { sys::$call(v.dims, v.kind(), 0, 0, 0, $($more,)* a.as_ptr(), a.len(), $(&mut to.$also),*) }
+            unsafe { sys::$call(v.shape.as_ptr(), $($more,)* a.as_ptr(), a.len(), $(&mut to.$also),*) }
         }
     };
 }
@@ -51,25 +45,8 @@ macro_rules! compared {
         |i: usize, to: &mut Lent| {
             let (v, w) = (&$v, &$w);
             let (a, b) = (&v.numbers[i], &w.numbers[(i + $next) % INPUTS]);
-            unsafe {
-                sys::$call(
-                    v.dims,
-                    v.kind(),
-                    0,
-                    0,
-                    0,
-                    w.dims,
-                    w.kind(),
-                    0,
-                    0,
-                    0,
-                    a.as_ptr(),
-                    a.len(),
-                    b.as_ptr(),
-                    b.len(),
-                    &mut to.$also,
-                )
-            }
+            let (left, right) = (v.shape.as_ptr(), w.shape.as_ptr());
+            unsafe { sys::$call(left, right, a.as_ptr(), a.len(), b.as_ptr(), b.len(), &mut to.$also) }
         }
     };
 }
@@ -80,23 +57,25 @@ macro_rules! unpacked {
         |i: usize, to: &mut Lent| {
             let (v, a) = (&$v, &$v.numbers[i]);
             let (out, room) = (to.out.as_mut_ptr(), to.out.len());
-            unsafe { sys::$call(v.dims, v.kind(), 0, 0, 0, $($d,)? a.as_ptr(), a.len(), out, room, &mut to.count) }
+            unsafe { sys::$call(v.shape.as_ptr(), $($d,)? a.as_ptr(), a.len(), out, room, &mut to.count) }
         }
     };
 }
 
-/// A list of numbers in, and one value out, Vanilla or Projective.
+/// A list of numbers in, and one value out: the numbers and the flavor, or the shape and the numbers.
 macro_rules! built {
-    ($call:ident, $lists:expr, $flavor:expr $(, $dims:expr)?) => {
+    ($call:ident, $lists:expr => $flavor:expr) => {
         |i: usize, to: &mut Lent| {
             let v = &$lists[i];
-            let [dims, kind, p, n, z] = &mut to.shape;
             let (out, room) = (to.out.as_mut_ptr(), to.out.len());
-            unsafe {
-                sys::$call(
-                    $($dims,)? v.as_ptr(), v.len(), crate::values::kind($flavor), 0, 0, 0, out, room, dims, kind, p, n, z
-                )
-            }
+            unsafe { sys::$call(v.as_ptr(), v.len(), $flavor.as_ptr(), out, room, to.shape.as_mut_ptr()) }
+        }
+    };
+    ($call:ident, $shape:expr, $lists:expr) => {
+        |i: usize, to: &mut Lent| {
+            let v = &$lists[i];
+            let (out, room) = (to.out.as_mut_ptr(), to.out.len());
+            unsafe { sys::$call($shape.as_ptr(), v.as_ptr(), v.len(), out, room, to.shape.as_mut_ptr()) }
         }
     };
 }
