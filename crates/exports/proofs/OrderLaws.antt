@@ -11,8 +11,7 @@ use Rattle.masks.specs.declared.order.OrderAnswer.{OrderAnswer}
 use Rattle.masks.specs.declared.outcome.Count.{Count}
 use Rattle.masks.specs.Order.{order, place, upFrom, placesOf, held, orderTests, refusedOrder, orderGiven, bladeCount}
 use Rattle.masks.specs.Outcome.{refusal, tooMany, noRoom, unless, laid}
-use Rattle.masks.proofs.OrderLaws.{blades-le, blades-counted, order-given, take-masks, up-length}
-use Rattle.masks.proofs.OrderPasses.{masks-length, places-length}
+use Rattle.masks.proofs.OrderLaws.{blades-le, blades-counted, order-given, take-masks, up-length, masks-length, places-length}
 use Rattle.masks.proofs.OutcomeLaws.{past, refused-already, refused-first, refused-later, unless-number}
 use Rattle.exports.specs.Reports.{reported}
 use Rattle.exports.specs.Order.{orderOfTests, ReportsOrderOf}

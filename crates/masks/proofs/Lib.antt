@@ -4,9 +4,10 @@ pub mod BuildLaws
 pub mod FlavorLaws
 pub mod ListLaws
 pub mod Lowest
-pub mod OrderComputed
+pub mod OrderFilled
 pub mod OrderLaws
-pub mod OrderPasses
+pub mod OrderMirror
+pub mod OrderSteps
 pub mod OrderPrecedes
 pub mod OrderSizes
 pub mod OutcomeLaws
