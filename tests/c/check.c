@@ -23,8 +23,8 @@ Got got, want;
 const double numbers[ROOM] = {1, 2, 3, 4, 5, 6, 7, 8, 9, 10, 11, 12, 13, 14, 15, 16};
 
 /* The calls, and of each: the last group that made it; whether it was done; bit k of kinds says that it was given a shape
- * of kind k then, and bit k of refused that it was refused with k. What is after the last is for a call that is not among
- * them. */
+ * of kind k then, and bit k of refused that it was refused with k; the most stack that it took. What is after the last is
+ * for a call that is not among them. */
 #define NAME(name) #name,
 static const char *const names[] = {THRESHOLM_CALLS(NAME)};
 #define CALLS (sizeof names / sizeof names[0])
@@ -32,6 +32,7 @@ static struct {
     const char *group;
     int done;
     unsigned kinds, refused;
+    size_t stack;
 } made[CALLS + 1];
 static const char *this_group;
 static size_t this_round, shapes_given, calls_of_group, answers, failures;
@@ -160,6 +161,7 @@ static void say_difference(const char *label) {
 }
 
 static size_t index_of(const char *name) {
+    const size_t stack = painted_over();
     size_t i = 0;
     while (i < CALLS && strcmp(names[i], name) != 0) i++;
     if (i == CALLS) {
@@ -168,6 +170,7 @@ static size_t index_of(const char *name) {
     }
     if (made[i].group != this_group) calls_of_group++;
     made[i].group = this_group;
+    if (stack > made[i].stack) made[i].stack = stack;
     return i;
 }
 
@@ -227,6 +230,10 @@ void say_numbers(void) {
             if (made[i].refused >> k & 1) printf(" %d", k);
         printf("\n");
     }
+}
+
+void say_stack(void) {
+    for (size_t i = 0; i < CALLS; i++) printf("thresholm_%s %zu\n", names[i], made[i].stack);
 }
 
 static void must(int condition, const char *name, const char *what) {

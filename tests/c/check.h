@@ -62,8 +62,8 @@ const uint8_t *list(const uint8_t *shapes, size_t count);
 
 /* A call that must return a number, 0 or that of a refusal; and one that must give a number that is no refusal's. Each
  * must have written what want says. */
-#define CALL(number, name, ...) answered(#name, __FILE__, __LINE__, number, thresholm_##name(__VA_ARGS__))
-#define GIVES(number, name, ...) gave(#name, __FILE__, __LINE__, number, (long)thresholm_##name(__VA_ARGS__))
+#define CALL(number, name, ...) answered(#name, __FILE__, __LINE__, number, (paint(), thresholm_##name(__VA_ARGS__)))
+#define GIVES(number, name, ...) gave(#name, __FILE__, __LINE__, number, (paint(), (long)thresholm_##name(__VA_ARGS__)))
 
 /* A call that must be done, and after which a NaN must have just the bits that want says. */
 #define MOVES(name, ...) (with_nan_bits(), CALL(0, name, __VA_ARGS__))
@@ -129,6 +129,13 @@ void nulls(void);
 void expect_wrong(void);
 void group(const char *name, void (*run)(void));
 void say_numbers(void);
+void say_stack(void);
 int every_call(void);
+
+/* The bytes of the stack that a call takes: tests run on one that can be painted; on another nothing is painted, and 0 is
+ * given. */
+void on_painted_stack(void (*all)(void));
+void paint(void);
+size_t painted_over(void);
 
 #endif
