@@ -8,18 +8,17 @@ use native.Mathlib.Nat.{add-zero}
 use native.Mathlib.Omega.{arith}
 use borrow.Author.Tests.{lt-ltb, le-ltb, ltb-true, ltb-false, eq-eqb, eqb-true, not-false}
 use lib.Dec.{ltb}
-use lib.Ieee.{Float, nan}
+use lib.Ieee.{Float}
 use lib.ListN.{length, set, take, drop, length-set}
-use lib.Seq.{set-append-left, getD-set-same}
+use lib.Seq.{set-append-left}
 use Rattle.masks.specs.Outcome.{refusal, tooMany, wrongCount, noRoom, valueTests, refusedValue, value, laid, refusedReal}
 use Rattle.masks.specs.declared.shape.Shape.{Shape}
 use Rattle.masks.specs.Order.{place}
 use Rattle.masks.specs.Shape.{coef, withDims, resized}
 use Rattle.masks.specs.Blade.{getBlade, bladeDims, withBlade, setBladeTests, setBlade, gradeRefusal}
 use Rattle.masks.proofs.ListLaws.{split}
-use Rattle.masks.proofs.OrderLaws.{place-lt}
 use Rattle.masks.proofs.OutcomeLaws.{past, unless-done, not-refused, Valued, valued, value-passes}
-use Rattle.masks.proofs.ShapeLaws.{coef-inside, resized-length}
+use Rattle.masks.proofs.ShapeLaws.{coef-set, resized-length}
 
 -- ---- the dimensions that a mask needs
 
@@ -127,8 +126,7 @@ blade-length (suc k) d m x a e =
     (λ (l : 2 ^ d ≤ m). rw (le-ltb m (2 ^ d) l) (blade-length k (d + 1) m x (resized d (d + 1) a) (resized-length d (d + 1) a))) (split m (2 ^ d))
 
 put : (d m : ℕ) (x : Float) (a : List Float) → m < 2 ^ d → length a ≡ 2 ^ d → coef d (set a (place d m) x) m ≡ x
-put d m x a h e =
-    coef-inside d m (set a (place d m) x) h ∙ getD-set-same a (place d m) x nan (omega (arith, place-lt d m h))
+put d m x a h e = coef-set d m m x a h h e ∙ rw (eq-eqb m m refl)
 
 got : (k d m : ℕ) (x : Float) (a : List Float) → m < 2 ^ (d + k) → length a ≡ 2 ^ d → coef (bladeDims k d m) (withBlade k d m x a) m ≡ x
 unfolding withBlade bladeDims

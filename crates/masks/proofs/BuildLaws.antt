@@ -1,28 +1,27 @@
 -- What building makes: numbers in their places, the masks of one parity, and the packings. Assumes nothing.
 use mathlib.Core.Path.{_≡_, refl, sym, ap, _∙_}
 use mathlib.Core.Bool.{Bool, true, false, cond}
-use mathlib.Core.List.{List, [], _∷_, _++_}
+use mathlib.Core.List.{List, [], _∷_, _++_, append-nil}
 use Prim.Native.Nat.{ℕ, zero, suc, _+_, _-_, _*_, _/_, _%_, _^_, _≤_, _<_}
 use native.Mathlib.Nat.{pow-suc, not-suc-le-zero}
 use native.Mathlib.Decide.{ℕ-discrete}
-use native.Mathlib.Numerals.{add-one}
 use native.Mathlib.Omega.{arith}
 use lib.Count.{ones}
 use lib.Dec.{eqb}
 use lib.Ieee.{Float, nan}
-use lib.ListN.{length, getD, drop, replicate, length-append, length-replicate, getD-replicate, List·getD-append}
+use lib.ListN.{length, getD, replicate, length-append, length-replicate, getD-replicate, replicate-append-replicate, List·getD-append}
 use lib.Pow.{pow-pos}
-use lib.Seq.{drop-cons}
+use lib.Seq.{sets}
 use borrow.Author.Tests.{eq-eqb, ne-eqb, eqb-true, eqb-false, lt-ltb, le-ltb, ltb-false}
 use Rattle.masks.specs.declared.flavor.Flavor.{Flavor}
 use Rattle.masks.specs.declared.flavor.Flavor.the-variants.{Vanilla}
 use Rattle.masks.specs.declared.build.Packing.{Packing}
 use Rattle.masks.specs.declared.build.Packing.the-variants.{Full, Half, Grade, Nothing}
 use Rattle.masks.specs.Order.{grade, gradesBelow, order, size, start}
-use Rattle.masks.specs.Outcome.{refusal, tooMany, noRoom, value, refusedValue, shapeOf, nought}
+use Rattle.masks.specs.Outcome.{refusal, tooMany, noRoom, laid, value, refusedValue, shapeOf, nought}
 use Rattle.masks.specs.Build.{padded, atGrade, builtTests, oneGrade, n1Tests, n1Blades, firstGrade, sideStart, sideEnd, packing, unpacked, ofParity, spread, packed, packedTests, bladesOfSide}
 use Rattle.masks.specs.Unpack.{choose}
-use Rattle.masks.proofs.ListLaws.{getD-past}
+use Rattle.masks.proofs.ListLaws.{getD-past, sets-laid, laid-over}
 use Rattle.masks.proofs.OrderLaws.{length-grade, length-order, grade-at, size-zero, start-all, size-above, part-fits}
 use Rattle.masks.proofs.OutcomeLaws.{past, refused-first, refused-later, unless-done}
 
@@ -50,14 +49,15 @@ module _ (first : ℕ) (v : List Float) (n : ℕ) where
       List·getD-append (replicate first nought ++ v) _ nan k (omega (arith, held))
       ∙ rw (← e) (getD-past (replicate first nought) v first i nan (length-replicate first nought))
 
-  pub padded-past : (k : ℕ) → first + length v ≤ k → k < n → getD (padded first v n) k nan ≡ nought
+  -- the numbers over n places that are +0
+  pub padded-over : (out : List Float) → first + length v ≤ n → n ≤ length out → sets (sets out 0 (replicate n nought)) first v ≡ laid (padded first v n) out
   unfolding padded
-  padded-past k h l =
-      let j : ℕ = k - (first + length v) in
-      let e : (first + length v) + j ≡ k = omega arith in
-      rw (← e)
-      (getD-past (replicate first nought ++ v) _ (first + length v) j nan held
-      ∙ getD-replicate (n - (first + length v)) j nought nan (omega arith))
+  padded-over out h l =
+      let e : first + length v + (n - (first + length v)) ≡ n = omega arith in
+      let z : replicate first nought ++ replicate (length v) nought ++ replicate (n - (first + length v)) nought ≡ replicate n nought =
+      rw (replicate-append-replicate first, replicate-append-replicate (first + length v), e) in
+      rw (sets-laid (replicate n nought) out (omega (arith, length-replicate n nought)), ← z)
+      (laid-over (replicate first nought) (replicate (length v) nought) v _ out first (length-replicate first nought) (length-replicate (length v) nought))
 
 -- ---- the sizes of the outer grades
 
@@ -110,15 +110,6 @@ module _ (odd : ℕ) where
   unfolding choose
   choose-lacks m ms e = rw (ne-eqb _ _ e)
 
-  pub choose-le : (ms : List ℕ) → length (choose odd ms) ≤ length ms
-  unfolding choose
-  choose-le [] = omega arith
-  choose-le (m ∷ ms) = go (ofParity odd m) (choose-le ms)
-    where
-      go : (b : Bool) → length (choose odd ms) ≤ length ms → length (cond b (m ∷ choose odd ms) (choose odd ms)) ≤ suc (length ms)
-      go true h = omega arith
-      go false h = omega arith
-
   pub choose-append : (xs ys : List ℕ) → choose odd (xs ++ ys) ≡ choose odd xs ++ choose odd ys
   unfolding choose
   choose-append [] ys = refl
@@ -128,19 +119,8 @@ module _ (odd : ℕ) where
       go true h = ap (λ l. m ∷ l) h
       go false h = h
 
-  -- the mask at place i is the next one
-  module _ (ms : List ℕ) (i : ℕ) (l : i < length ms) where
-    rest : drop i ms ≡ getD ms i 0 ∷ drop (i + 1) ms
-    rest = rw add-one (drop-cons ms i 0 l)
-
-    pub choose-next : ones (getD ms i 0) % 2 ≡ odd → choose odd (drop i ms) ≡ getD ms i 0 ∷ choose odd (drop (i + 1) ms)
-    choose-next e = rw rest (choose-has (getD ms i 0) (drop (i + 1) ms) e)
-
-    pub choose-skip : (ones (getD ms i 0) % 2 ≡ odd → ⊥) → choose odd (drop i ms) ≡ choose odd (drop (i + 1) ms)
-    choose-skip e = rw rest (choose-lacks (getD ms i 0) (drop (i + 1) ms) e)
-
 -- the masks of a list, where each has g one bits, and g of one parity or not
-abbrev AllOf : ℕ → List ℕ → Type 0
+abbrev pub AllOf : ℕ → List ℕ → Type 0
 AllOf g ms = (k : ℕ) → k < length ms → ones (getD ms k 0) ≡ g
 
 module _ (odd g : ℕ) where
@@ -157,30 +137,38 @@ module _ (odd g : ℕ) where
       choose-lacks odd m ms (λ q. e (sym (ap (λ x. x % 2) (h 0 (omega arith))) ∙ q)) ∙ choose-none ms e (λ k l. h (suc k) (omega arith))
 
 -- how many masks of one parity stand in the grades below g
-counted : ℕ → ℕ → ℕ → ℕ
+unfoldable pub counted : ℕ → ℕ → ℕ → ℕ
 counted odd d g = length (choose odd (gradesBelow d g))
 
+pub all-grade : (d g : ℕ) → AllOf g (grade d g)
+all-grade d g k l = grade-at d g k (omega (arith, length-grade d g)) .counted
+
 module _ (odd d g : ℕ) where
-  all-grade : AllOf g (grade d g)
-  all-grade k l = grade-at d g k (omega (arith, length-grade d g)) .counted
+  pub chosen-has : g % 2 ≡ odd → choose odd (gradesBelow d (suc g)) ≡ choose odd (gradesBelow d g) ++ grade d g
+  unfolding gradesBelow
+  chosen-has e =
+      choose-append odd (gradesBelow d g) (grade d g) ∙ rw (choose-all odd g (grade d g) e (all-grade d g))
 
-  counted-has : g % 2 ≡ odd → counted odd d (suc g) ≡ counted odd d g + size d g
-  unfolding counted gradesBelow
-  counted-has e =
-      simp (choose-append, choose-all odd g (grade d g) e all-grade, length-append, length-grade)
+  pub chosen-lacks : (g % 2 ≡ odd → ⊥) → choose odd (gradesBelow d (suc g)) ≡ choose odd (gradesBelow d g)
+  unfolding gradesBelow
+  chosen-lacks e =
+      choose-append odd (gradesBelow d g) (grade d g) ∙ rw (choose-none odd g (grade d g) e (all-grade d g), append-nil)
 
-  counted-lacks : (g % 2 ≡ odd → ⊥) → counted odd d (suc g) ≡ counted odd d g
-  unfolding counted gradesBelow
-  counted-lacks e =
-      simp (choose-append, choose-none odd g (grade d g) e all-grade, length-append) (omega arith)
+  pub counted-has : g % 2 ≡ odd → counted odd d (suc g) ≡ counted odd d g + size d g
+  unfolding counted
+  counted-has e = ap length (chosen-has e) ∙ simp (length-append, length-grade)
 
-counted-zero : (odd d : ℕ) → counted odd d 0 ≡ 0
+  pub counted-lacks : (g % 2 ≡ odd → ⊥) → counted odd d (suc g) ≡ counted odd d g
+  unfolding counted
+  counted-lacks e = ap length (chosen-lacks e)
+
+pub counted-zero : (odd d : ℕ) → counted odd d 0 ≡ 0
 unfolding counted gradesBelow choose
 counted-zero odd d = refl
 
 -- a grade of d + 1 dimensions is as large as two grades of d dimensions that follow one another
 module _ (odd d : ℕ) (o : odd ≤ 1) where
-  counted-step : (g : ℕ) → ((g % 2 ≡ odd → counted odd (suc d) (suc g) ≡ start d (suc g)) × ((g % 2 ≡ odd → ⊥) → counted odd (suc d) (suc g) ≡ start d g))
+  pub counted-step : (g : ℕ) → ((g % 2 ≡ odd → counted odd (suc d) (suc g) ≡ start d (suc g)) × ((g % 2 ≡ odd → ⊥) → counted odd (suc d) (suc g) ≡ start d g))
   unfolding start size
   counted-step zero =
       (λ e. omega (arith, counted-has odd (suc d) 0 e, counted-zero odd (suc d)), λ e. counted-lacks odd (suc d) 0 e ∙ counted-zero odd (suc d))
@@ -236,43 +224,6 @@ module _ (odd m : ℕ) (ms : List ℕ) where
   unfolding spread
   spread-lacks [] e = refl
   spread-lacks (x ∷ v) e = rw (ne-eqb _ _ e)
-
--- after k masks, `at` of the numbers are given: what is left of them is for the masks that are left
-pub record Given (odd : ℕ) (ms : List ℕ) (v : List Float) (k at : ℕ) : Type 0 where
-  pub left : length v ≡ at + length (choose odd (drop k ms))
-  pub rest : drop k (spread odd ms v) ≡ spread odd (drop k ms) (drop at v)
-
-pub given-none : (odd : ℕ) (ms : List ℕ) (v : List Float) → length v ≡ length (choose odd ms) → Given odd ms v 0 0
-given-none odd ms v e = record { left = omega arith; rest = refl }
-
-module _ (odd : ℕ) (ms : List ℕ) (v : List Float) (k at : ℕ) (l : k < length ms) (g : Given odd ms v k at) where
-  -- what the next mask is given, and what is left then
-  next : drop k (spread odd ms v) ≡ getD (spread odd ms v) k nan ∷ drop (k + 1) (spread odd ms v)
-  next = rw add-one (drop-cons (spread odd ms v) k nan (omega (arith, length-spread odd ms v)))
-
-  module _ (p : ones (getD ms k 0) % 2 ≡ odd) where
-    pub given-fits : at < length v
-    given-fits = omega (arith, g .left, ap length (choose-next odd ms k l p))
-
-    given-next : getD (spread odd ms v) k nan ∷ drop (k + 1) (spread odd ms v) ≡ getD v at nan ∷ spread odd (drop (k + 1) ms) (drop (at + 1) v)
-    given-next =
-        sym next ∙ g .rest ∙ rw (rest odd ms k l, drop-cons v at nan given-fits, add-one at) (spread-has odd _ _ _ _ p)
-
-    pub given-number : getD v at nan ≡ getD (spread odd ms v) k nan
-    given-number = cc given-next
-
-    pub given-more : Given odd ms v (k + 1) (at + 1)
-    given-more = record { left = omega (arith, g .left, ap length (choose-next odd ms k l p)); rest = cc given-next }
-
-  module _ (p : ones (getD ms k 0) % 2 ≡ odd → ⊥) where
-    given-skip : getD (spread odd ms v) k nan ∷ drop (k + 1) (spread odd ms v) ≡ nought ∷ spread odd (drop (k + 1) ms) (drop at v)
-    given-skip = sym next ∙ g .rest ∙ rw (rest odd ms k l) (spread-lacks odd _ _ _ p)
-
-    pub given-nought : nought ≡ getD (spread odd ms v) k nan
-    given-nought = cc given-skip
-
-    pub given-same : Given odd ms v (k + 1) at
-    given-same = record { left = omega (arith, g .left, ap length (choose-skip odd ms k l p)); rest = cc given-skip }
 
 -- ---- packings
 

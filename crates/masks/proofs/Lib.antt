@@ -2,14 +2,17 @@
 pub mod BladeLaws
 pub mod BuildLaws
 pub mod FlavorLaws
+pub mod GradeParts
 pub mod ListLaws
 pub mod Lowest
 pub mod OrderFilled
+pub mod OrderKept
 pub mod OrderLaws
 pub mod OrderMirror
-pub mod OrderSteps
 pub mod OrderPrecedes
 pub mod OrderSizes
+pub mod OrderSteps
+pub mod OrderBackwards
 pub mod OutcomeLaws
 pub mod ShapeBytesLaws
 pub mod ShapeLaws
@@ -17,3 +20,4 @@ pub mod TextBack
 pub mod TextLaws
 pub mod TextScan
 pub mod UnpackLaws
+pub mod WalkLaws

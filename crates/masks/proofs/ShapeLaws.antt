@@ -1,28 +1,27 @@
 -- Laws of changes of shape: what they do at each mask, what the code's steps make of them, and what accepted calls give. Assumes nothing.
 use mathlib.Core.Path.{_≡_, refl, sym, ap, ap₂, _∙_}
-use mathlib.Core.Bool.{Bool, true, false, _&&_, _||_, cond, and-true, and-false, and-comm, or-comm, Bool·not-not}
+use mathlib.Core.Bool.{Bool, true, false, _&&_, _||_, cond, and-true, and-false, and-comm, or-comm, false≢true, Bool·not-not}
 use mathlib.Core.Logic.{⊎-elim}
-use mathlib.Core.List.{List, [], _∷_, map, map-map}
+use mathlib.Core.List.{List, [], _∷_, map}
 use Prim.Native.Nat.{ℕ, zero, suc, _+_, _*_, _/_, _%_, _^_, _≤_, _<_}
 use native.Mathlib.Nat.{pow-suc, add-zero}
 use native.Mathlib.Numerals.{add-one}
 use native.Mathlib.Omega.{arith}
-use borrow.Author.Tests.{lt-ltb, le-ltb, ltb-false, eq-eqb, ne-eqb, eqb-true, not-false}
+use borrow.Author.Tests.{lt-ltb, le-ltb, ltb-false, eq-eqb, ne-eqb, eqb-true, eqb-false, not-false}
 use lib.Dec.{eqb, ltb}
 use lib.Ieee.{Float, nan, inf, fin, neg}
-use lib.ListN.{length, getD, take, drop, length-drop, length-map}
+use lib.ListN.{length, getD, set, take, drop, length-drop, length-map, length-set}
 use lib.Pow.{pow-mono}
-use lib.Seq.{length-take-le, getD-take, getD-drop, ext-getD}
+use lib.Seq.{length-take-le, getD-take, getD-drop, getD-set-same, getD-set-other, ext-getD}
 use Rattle.masks.specs.declared.flavor.Flavor.{Flavor}
 use Rattle.masks.specs.declared.flavor.Flavor.the-variants.{Vanilla, Projective, Cl}
 use Rattle.masks.specs.declared.shape.Shape.{Shape}
-use Rattle.masks.specs.Order.{order, place, masksOf}
+use Rattle.masks.specs.Order.{order, place}
 use Rattle.masks.specs.Outcome.{refusal, tooMany, wrongCount, noRoom, resultTests, pairTests, unless, laid, nought, shapeOf, refusedValue, value, Pair, refusedPair}
 use Rattle.masks.specs.Shape.{coef, negatedIf, withDims, negates, moved, resized, setDims, promotes, promotedCoef, promoted, setFlavor, conformed, promotedFlavor, conformedShape, bothTests, conform}
-use Rattle.masks.specs.inner.Gather.{negatedAt, turnedMask, lowered}
 use Rattle.masks.proofs.ListLaws.{split, getD-map, take-laid}
 use Rattle.masks.proofs.OutcomeLaws.{past, Taken, taken, later-same, unless-done, passes, passed, not-refused}
-use Rattle.masks.proofs.OrderLaws.{length-order, order-at, order-place, place-lt, blades-le, take-masks}
+use Rattle.masks.proofs.OrderLaws.{length-order, order-at, order-place, place-lt}
 
 -- ---- a part of a list, mapped
 
@@ -47,9 +46,6 @@ pub coef-outside : (d m : ℕ) (a : List Float) → 2 ^ d ≤ m → coef d a m �
 unfolding coef
 coef-outside d m a h = rw (le-ltb m (2 ^ d) h)
 
-pub negated-other : (t d m : ℕ) (a : List Float) → (m ≡ t → ⊥) → negatedAt t d a m ≡ coef d a m
-negated-other t d m a h = rw (ne-eqb m t h)
-
 -- ---- a number for each mask, in order
 
 pub ordered-length : (f : ℕ → Float) (n : ℕ) → length (map f (order n)) ≡ 2 ^ n
@@ -70,6 +66,18 @@ ordered f n a e g =
     let m : ℕ = getD (order n) i 0 in
     getD-map f (order n) i 0 nan (omega (arith, length-order n)) ∙ g m (o .low) ∙ coef-inside n m a (o .low)
     ∙ ap (λ (p : ℕ). getD a p nan) (o .back))
+
+-- a number set at a mask's place is that mask's coefficient
+pub coef-set : (n k m : ℕ) (x : Float) (a : List Float) → k < 2 ^ n → m < 2 ^ n → length a ≡ 2 ^ n → coef n (set a (place n k) x) m ≡ cond (eqb m k) x (coef n a m)
+coef-set n k m x a h l e = coef-inside n m (set a (place n k) x) l ∙ go (eqb m k) refl
+  where
+    go : (b : Bool) → eqb m k ≡ b → getD (set a (place n k) x) (place n m) nan ≡ cond b x (coef n a m)
+    go true q =
+        rw (eqb-true m k q) (getD-set-same a (place n k) x nan (omega (arith, place-lt n k h)))
+    go false q =
+        getD-set-other a (place n k) (place n m) x nan
+        (λ p. eqb-false m k q (sym (order-place n m l) ∙ ap (λ (i : ℕ). getD (order n) i 0) p ∙ order-place n k h))
+        ∙ sym (coef-inside n m a l)
 
 -- ---- other dimensions
 
@@ -118,22 +126,37 @@ resized-back d n a l e =
     let k : m < 2 ^ n = omega (arith, pow-mono {i = d} {j = n} l) in
     ap (negatedIf (negates n d m)) (resized-at d n m a k) ∙ rw (negates-back d n m) (twice (negates n d m) (coef d a m)))
 
--- the mask that the code negates is the one that the change does
-turned-negates : (d n m : ℕ) → m < 512 → eqb m (turnedMask d n) ≡ negates d n m
-unfolding turnedMask negates
-turned-negates d n m h = go ((eqb d 3 && ltb 3 n) || (ltb 3 d && eqb n 3))
-  where
-    go : (b : Bool) → eqb m (cond b 5 512) ≡ (eqb m 5 && b)
-    go true = sym (and-true (eqb m 5))
-    go false = ne-eqb m 512 (λ e. omega arith) ∙ sym (and-false (eqb m 5))
+-- a change negates mask 101 only where there is one
+pub turned-inside : (d n : ℕ) → negates d n 5 ≡ true → 5 < 2 ^ n
+unfolding negates
+turned-inside d n e =
+    ⊎-elim (λ (l : n < 3). absurd (false≢true (simp (le-ltb 3 n (omega arith), ne-eqb n 3 (λ q. omega arith), and-false) at e)))
+    (λ (l : 3 ≤ n). omega (arith, pow-mono {i = 3} {j = n} l)) (split n 3)
 
--- what the code gathers
-pub resized-from : (d n turned count : ℕ) (a : List Float) (ms : List ℕ) → n ≤ 9 → turned ≡ turnedMask d n → count ≡ 2 ^ n → ms ≡ masksOf n → map (negatedAt turned d a) (take count (drop 0 ms)) ≡ resized d n a
-resized-from d n turned count a ms h t c e =
-    rw (t, c, e, take-masks n)
-    (ordered (negatedAt (turnedMask d n) d a) n (resized d n a) (resized-length d n a)
-    (λ m l.
-    ap (λ (b : Bool). negatedIf b (coef d a m)) (turned-negates d n m (omega (arith, blades-le n h))) ∙ sym (resized-at d n m a l)))
+module _ (d n : ℕ) (a : List Float) where
+  -- the coefficients at n dimensions, and the same with that of mask 101 negated
+  abbrev pub asRead : List Float
+  asRead = map (coef d a) (order n)
+
+  abbrev pub turnedRead : List Float
+  turnedRead = set asRead (place n 5) (neg (getD asRead (place n 5) nan))
+
+  turned-at : (m : ℕ) → m < 2 ^ n → 5 < 2 ^ n → negatedIf (eqb m 5) (coef d a m) ≡ coef n turnedRead m
+  turned-at m h l = go (eqb m 5) refl ∙ sym (coef-set n 5 m _ asRead l h (ordered-length (coef d a) n))
+    where
+      go : (b : Bool) → eqb m 5 ≡ b → negatedIf b (coef d a m) ≡ cond b (neg (getD asRead (place n 5) nan)) (coef n asRead m)
+      go true q = ap neg (ap (coef d a) (eqb-true m 5 q) ∙ sym (ordered-at (coef d a) n 5 l) ∙ coef-inside n 5 asRead l)
+      go false q = sym (ordered-at (coef d a) n m h)
+
+  -- what the code makes of what it reads
+  pub resized-turned : (t : Bool) → negates d n 5 ≡ t → cond t turnedRead asRead ≡ resized d n a
+  unfolding resized negates
+  resized-turned true e =
+      sym
+      (ordered (moved d n a) n turnedRead (length-set asRead (place n 5) _ ∙ ordered-length (coef d a) n)
+      (λ m h. rw (e, and-true) (turned-at m h (turned-inside d n e))))
+  resized-turned false e =
+      sym (ordered (moved d n a) n asRead (ordered-length (coef d a) n) (λ m h. rw (e, and-false) (sym (ordered-at (coef d a) n m h))))
 
 -- what was laid into a buffer is read back
 pub resized-held : (d n count : ℕ) (a held buf : List Float) → count ≡ 2 ^ n → held ≡ laid (resized d n a) buf → take count held ≡ resized d n a
@@ -150,50 +173,26 @@ pub promoted-at : (d m : ℕ) (a : List Float) → m < 2 ^ (d + 1) → coef (d +
 unfolding promoted
 promoted-at d m a h = ordered-at (promotedCoef d a) (d + 1) m h
 
+-- the coefficient of a mask that has bit 0 clear, and of one that has it
+pub raised-even : (d m : ℕ) (a : List Float) → promotedCoef d a (2 * m) ≡ coef d a m
+raised-even d m a =
+    let r : 2 * m % 2 ≡ 0 = omega arith in
+    let q : 2 * m / 2 ≡ m = omega arith in
+    rw (eq-eqb (2 * m % 2) 0 r) (ap (coef d a) q)
+
+pub raised-odd : (d m : ℕ) (a : List Float) → promotedCoef d a (2 * m + 1) ≡ nought
+raised-odd d m a = rw (ne-eqb ((2 * m + 1) % 2) 0 (λ e. omega arith))
+
 double-lt : (d m : ℕ) → m < 2 ^ d → 2 * m + 1 < 2 ^ (d + 1)
 double-lt d m h = rw (add-one d) (omega (arith, pow-suc 2 d))
 
 -- bit i becomes bit i + 1
 pub promoted-even : (d m : ℕ) (a : List Float) → m < 2 ^ d → coef (d + 1) (promoted 1 d a) (2 * m) ≡ coef d a m
-promoted-even d m a h =
-    let r : 2 * m % 2 ≡ 0 = omega arith in
-    let q : 2 * m / 2 ≡ m = omega arith in
-    promoted-at d (2 * m) a (omega (arith, double-lt d m h)) ∙ rw (eq-eqb (2 * m % 2) 0 r) (ap (coef d a) q)
+promoted-even d m a h = promoted-at d (2 * m) a (omega (arith, double-lt d m h)) ∙ raised-even d m a
 
 -- a mask with bit 0 is new
 pub promoted-odd : (d m : ℕ) (a : List Float) → m < 2 ^ d → coef (d + 1) (promoted 1 d a) (2 * m + 1) ≡ nought
-promoted-odd d m a h =
-    promoted-at d (2 * m + 1) a (double-lt d m h) ∙ rw (ne-eqb ((2 * m + 1) % 2) 0 (λ e. omega arith))
-
-lowered-le : (m : ℕ) → m ≤ 1024 → lowered m ≤ 512
-lowered-le m h =
-    ⊎-elim (λ (q : m % 2 < 1). rw (eq-eqb (m % 2) 0 (omega arith)) (omega arith)) (λ (q : 1 ≤ m % 2). rw (ne-eqb (m % 2) 0 (λ e. omega arith)) (omega arith))
-    (split (m % 2) 1)
-
--- the mask that the code reads is the one that a mask comes from
-lowered-promoted : (d m : ℕ) (a : List Float) → d ≤ 9 → coef d a (lowered m) ≡ promotedCoef d a m
-lowered-promoted d m a h = go (eqb (m % 2) 0)
-  where
-    go : (b : Bool) → coef d a (cond b (m / 2) 512) ≡ cond b (coef d a (m / 2)) nought
-    go true = refl
-    go false = coef-outside d 512 a (blades-le d h)
-
--- nothing is negated where a mask that no value has is turned
-promoted-moved : (d : ℕ) (a : List Float) → d < 9 → map (negatedAt 1024 d a) (map lowered (order (d + 1))) ≡ promoted 1 d a
-promoted-moved d a h =
-    map-map (negatedAt 1024 d a) lowered (order (d + 1))
-    ∙ ordered (λ (m : ℕ). negatedAt 1024 d a (lowered m)) (d + 1) (promoted 1 d a) (promoted-length d a)
-    (λ m l.
-    let k : m < 512 = omega (arith, blades-le (d + 1) (omega arith)) in
-    negated-other 1024 d (lowered m) a (λ e. omega (arith, e, lowered-le m (omega arith)))
-    ∙ lowered-promoted d m a (omega arith)
-    ∙ sym (promoted-at d m a l))
-
--- what the code gathers
-pub promoted-from : (d count : ℕ) (a : List Float) (ms buf low : List ℕ) → d < 9 → count ≡ 2 ^ (d + 1) → ms ≡ masksOf (d + 1) → low ≡ laid (map lowered (take count ms)) buf → map (negatedAt 1024 d a) (take count (drop 0 low)) ≡ promoted 1 d a
-promoted-from d count a ms buf low h c e l =
-    rw (l, e, c, take-masks (d + 1), take-laid (2 ^ (d + 1)) (map lowered (order (d + 1))) buf (length-map (order (d + 1)) lowered ∙ length-order (d + 1)))
-    (promoted-moved d a h)
+promoted-odd d m a h = promoted-at d (2 * m + 1) a (double-lt d m h) ∙ raised-odd d m a
 
 pub promoted-none : (up d : ℕ) (a : List Float) → up ≡ 0 → promoted up d a ≡ a
 unfolding promoted

@@ -1,72 +1,34 @@
 -- What unpacking reads: the masks that are chosen, and their coefficients; and that what was built is read back. Assumes nothing.
 use mathlib.Core.Path.{_≡_, refl, sym, ap, _∙_, subst}
 use mathlib.Core.Bool.{Bool, true, false, cond}
-use mathlib.Core.List.{List, [], _∷_, _++_, map, append-assoc, append-nil}
+use mathlib.Core.List.{List, [], _∷_, map, append-assoc}
 use Prim.Native.Nat.{ℕ, zero, suc, _+_, _-_, _*_, _%_, _^_, _≤_, _<_}
-use native.Mathlib.Numerals.{add-one}
 use native.Mathlib.Omega.{arith}
 use native.Mathlib.Decide.{ℕ-discrete}
 use borrow.Author.Tests.{eq-eqb, ne-eqb, le-ltb}
 use lib.Count.{ones, onesIn, ones-ones}
 use lib.Ieee.{Float, nan}
-use lib.ListN.{length, getD, set, take, drop, length-drop, length-map, drop-of-length-le, replicate, length-replicate}
-use lib.Seq.{length-take-le, take-suc-set, take-append-le, drop-append-le, drop-at, take-at}
+use lib.ListN.{length, getD, take, drop, length-take, length-drop, length-map, replicate, length-replicate}
+use lib.Seq.{length-take-le, drop-at, take-at, sets}
 use lib.Pow.{pow-pos, ones-lt}
-use Rattle.masks.specs.inner.Gather.{negatedAt}
-use Rattle.masks.specs.declared.order.Order.{Order}
 use Rattle.masks.specs.declared.outcome.Count.{Count}
 use Rattle.masks.specs.declared.shape.Shape.{Shape}
 use Rattle.masks.specs.declared.flavor.Flavor.{Flavor}
 use Rattle.masks.specs.declared.flavor.Flavor.the-variants.{Vanilla}
 use Rattle.masks.specs.declared.build.Packing.the-variants.{Grade}
-use Rattle.masks.specs.Order.{grade, gradesBelow, order, size, start, indexOf, place, held, masksOf, orderFor}
+use Rattle.masks.specs.Order.{grade, gradesBelow, order, size, start, indexOf, place}
 use Rattle.masks.specs.Outcome.{Outcome, shapeOf, refusal, resultTests, unless, laid, refusedList, listed, countOf, nought}
 use Rattle.masks.specs.Flavor.{addedDims}
 use Rattle.masks.specs.Shape.{coef}
 use Rattle.masks.specs.Blade.{getBlade, gradeRefusal, gradePart}
 use Rattle.masks.specs.Build.{padded, atGrade, oneGrade, vector, n1Blades, scalar, pseudoscalar, packing, ofParity, spread, bladesOfSide}
 use Rattle.masks.specs.Unpack.{choose, halfMasks, unpackAll, halfOf, unpackHalf, unpackOwnHalf, unpackVector}
-use Rattle.masks.proofs.OrderLaws.{length-order, size-zero, rank, grade-has, place-ranked, place-lt, order-place, order-at, blades-le, take-masks, built-masks}
+use Rattle.masks.proofs.ListLaws.{take-laid, sets-laid}
+use Rattle.masks.proofs.OrderLaws.{length-order, size-zero, rank, grade-has, place-ranked, place-lt, order-place, order-at}
 use Rattle.masks.proofs.OutcomeLaws.{unless-done, passes}
-use Rattle.masks.proofs.ShapeLaws.{coef-inside, coef-outside, negated-other, ordered}
+use Rattle.masks.proofs.ShapeLaws.{coef-inside, coef-outside, ordered-length, ordered-at, ordered}
 use Rattle.masks.proofs.BladeLaws.{get-blade-done}
-use Rattle.masks.proofs.BuildLaws.{padded-at, lt-blades, start-one, size-one, size-last, size-before-last, grade-fits, vector-fits, length-grade-set, choose-has, choose-lacks, choose-le, choose-next, choose-skip, half-count, half-twice, half-some, length-half-set, spread-has, spread-lacks, Packs, packing-fits, one-built, n1-one, full-built, half-built, grade-built}
-
--- ---- masks chosen one after the other
-
--- of the first i masks, those of one parity stand in front of the output, `end` of them
-pub record Chosen (odd : ℕ) (ms room : List ℕ) (i end : ℕ) : Type 0 where
-  pub counted : end + length (choose odd (drop i ms)) ≡ length (choose odd ms)
-  pub front : take end room ++ choose odd (drop i ms) ≡ choose odd ms
-
-pub chosen-none : (odd : ℕ) (ms room : List ℕ) → Chosen odd ms room 0 0
-chosen-none odd ms room = record { counted = omega arith; front = refl }
-
-module _ (odd : ℕ) (ms room : List ℕ) (i end : ℕ) (c : Chosen odd ms room i end) where
-  pub chosen-all : length ms ≤ i → ((end ≡ length (choose odd ms)) × (take end room ≡ choose odd ms))
-  unfolding choose
-  chosen-all l =
-      let d : drop i ms ≡ [] = drop-of-length-le ms {i = i} l in
-      (omega (arith, c .counted, ap (λ l. length (choose odd l)) d), sym (append-nil (take end room)) ∙ rw d at (c .front))
-
-  module _ (l : i < length ms) where
-    pub chosen-fits : ones (getD ms i 0) % 2 ≡ odd → end < length ms
-    chosen-fits p = omega (arith, c .counted, choose-le odd ms, ap length (choose-next odd ms i l p))
-
-    pub chosen-more : ones (getD ms i 0) % 2 ≡ odd → end < length room → Chosen odd ms (set room end (getD ms i 0)) (i + 1) (end + 1)
-    chosen-more p h =
-        record {
-          counted = omega (arith, c .counted, ap length (choose-next odd ms i l p));
-          front =
-              rw (add-one end, take-suc-set room end (getD ms i 0) h, append-assoc (take end room)) (rw (choose-next odd ms i l p) at (c .front));
-        }
-
-    pub chosen-same : (ones (getD ms i 0) % 2 ≡ odd → ⊥) → Chosen odd ms room (i + 1) end
-    chosen-same p =
-        record {
-          counted = omega (arith, c .counted, ap length (choose-skip odd ms i l p));
-          front = rw (choose-skip odd ms i l p) at (c .front);
-        }
+use Rattle.masks.proofs.BuildLaws.{padded-at, lt-blades, start-one, size-one, size-last, size-before-last, grade-fits, vector-fits, length-grade-set, choose-has, choose-lacks, half-count, half-twice, half-some, length-half-set, spread-has, spread-lacks, Packs, packing-fits, one-built, n1-one, full-built, half-built, grade-built}
 
 -- ---- half of the blades
 
@@ -86,77 +48,28 @@ length-half odd lone zero o = refl
 length-half odd lone (suc d) o =
     ap length (half-masks odd lone (suc d) (λ e. omega arith)) ∙ half-count odd (suc d) o (omega arith)
 
--- ---- the coefficients of masks that a value may have
-
--- each mask of a list is below n
-abbrev Low : ℕ → List ℕ → Type 0
-Low n [] = Unit {0}
-Low n (m ∷ ms) = (m < n) × Low n ms
-
-low-by : (n : ℕ) (ms : List ℕ) → ((k : ℕ) → k < length ms → getD ms k 0 < n) → Low n ms
-low-by n [] h = tt
-low-by n (m ∷ ms) h = (h 0 (omega arith), low-by n ms (λ k l. h (suc k) (omega arith)))
-
-low-order : (d : ℕ) → d ≤ 9 → Low 512 (order d)
-low-order d h =
-    low-by 512 (order d) (λ k l. omega (arith, order-at d k (omega (arith, length-order d)) .low, blades-le d h))
-
-low-take : (n k : ℕ) (ms : List ℕ) → Low n ms → Low n (take k ms)
-low-take n zero ms h = tt
-low-take n (suc k) [] h = tt
-low-take n (suc k) (m ∷ ms) h = (h .0, low-take n k ms (h .1))
-
-low-drop : (n k : ℕ) (ms : List ℕ) → Low n ms → Low n (drop k ms)
-low-drop n zero ms h = h
-low-drop n (suc k) [] h = tt
-low-drop n (suc k) (m ∷ ms) h = low-drop n k ms (h .1)
-
-low-choose : (n odd : ℕ) (ms : List ℕ) → Low n ms → Low n (choose odd ms)
+-- functions that agree at each mask of a list agree at those that are chosen of it
+chosen-same : (f g : ℕ → Float) (odd : ℕ) (ms : List ℕ) → ((k : ℕ) → k < length ms → f (getD ms k 0) ≡ g (getD ms k 0)) → map f (choose odd ms) ≡ map g (choose odd ms)
 unfolding choose
-low-choose n odd [] h = tt
-low-choose n odd (m ∷ ms) h = go (ofParity odd m) (low-choose n odd ms (h .1))
+chosen-same f g odd [] h = refl
+chosen-same f g odd (m ∷ ms) h =
+    go (ofParity odd m) (h 0 (omega arith)) (chosen-same f g odd ms (λ k l. h (suc k) (omega arith)))
   where
-    go : (b : Bool) → Low n (choose odd ms) → Low n (cond b (m ∷ choose odd ms) (choose odd ms))
-    go true l = (h .0, l)
-    go false l = l
+    go : (b : Bool) → f m ≡ g m → map f (choose odd ms) ≡ map g (choose odd ms) → map f (cond b (m ∷ choose odd ms) (choose odd ms)) ≡ map g (cond b (m ∷ choose odd ms) (choose odd ms))
+    go true p q = rw (p, q)
+    go false p q = q
 
--- the masks of grade 1, as the code holds them
-vector-held : (d : ℕ) → take d (drop 1 (masksOf d)) ≡ take d (drop 1 (order d))
-unfolding masksOf held
-vector-held d =
-    rw (drop-append-le 1 (order d) _ (omega (arith, length-order d, lt-blades d)), take-append-le d (drop 1 (order d)) _ (omega (arith, length-order d, lt-blades d, length-drop 1 (order d))))
+-- half of what was read into a buffer is that half of the value
+pub half-held : (odd dims d count : ℕ) (a held buf : List Float) → count ≡ 2 ^ d → held ≡ laid (map (coef dims a) (order d)) buf → map (coef d (take count held)) (choose odd (order d)) ≡ map (coef dims a) (choose odd (order d))
+half-held odd dims d count a held buf c e =
+    rw (e, c, take-laid (2 ^ d) (map (coef dims a) (order d)) buf (ordered-length (coef dims a) d))
+    (chosen-same (coef d (map (coef dims a) (order d))) (coef dims a) odd (order d)
+    (λ k l. ordered-at (coef dims a) d (getD (order d) k 0) (order-at d k (omega (arith, length-order d)) .low)))
 
-module _ (turned dims : ℕ) (a : List Float) (t : 512 ≤ turned) where
-  -- none of these masks is the one that is negated
-  unturned : (ms : List ℕ) → Low 512 ms → map (negatedAt turned dims a) ms ≡ map (coef dims a) ms
-  unturned [] h = refl
-  unturned (m ∷ ms) h =
-      rw (negated-other turned dims m a (λ e. omega (arith, h .0)), unturned ms (h .1))
-
-  -- what is written where the coefficients of such masks are gathered
-  module _ (d : ℕ) (ms : List ℕ) (l : d ≤ 9) (e : ms ≡ masksOf d) (before after : List Float) where
-    pub all-read : (count : ℕ) → count ≡ 2 ^ d → after ≡ laid (map (negatedAt turned dims a) (take count (drop 0 ms))) before → after ≡ laid (map (coef dims a) (order d)) before
-    all-read count n g = g ∙ rw (e, n, take-masks d, unturned (order d) (low-order d l))
-
-    pub vector-read : after ≡ laid (map (negatedAt turned dims a) (take d (drop 1 ms))) before → after ≡ laid (map (coef dims a) (take d (drop 1 (order d)))) before
-    vector-read g =
-        g
-        ∙ rw (e, vector-held d, unturned (take d (drop 1 (order d))) (low-take 512 d (drop 1 (order d)) (low-drop 512 1 (order d) (low-order d l))))
-
-    pub half-read : (odd n count : ℕ) (chosen : List ℕ) → n ≡ 2 ^ d → take count chosen ≡ choose odd (take n ms) → after ≡ laid (map (negatedAt turned dims a) (take count (drop 0 chosen))) before → after ≡ laid (map (coef dims a) (choose odd (order d))) before
-    half-read odd n count chosen q h g =
-        g ∙ rw (h, e, q, take-masks d, unturned (choose odd (order d)) (low-choose 512 odd (order d) (low-order d l)))
-
--- ---- what the code holds and answers
-
-pub held-order : (o : Order) (d n : ℕ) → o ≡ orderFor d → n ≡ 2 ^ d → take n (o .masks) ≡ order d
-held-order o d n e q = rw (q, built-masks e) (take-masks d)
+-- ---- what the code answers
 
 pub counts : (n : ℕ) (f : ℕ → Float) (ms : List ℕ) → n ≡ length ms → _≡_ {A = Count} (record { number = 0; count = n }) (countOf (listed (map f ms)))
 counts n f ms e = rw (length-map ms f, e)
-
-pub half-le : (d : ℕ) → d ≤ 9 → 2 ^ (d - 1) ≤ 512
-half-le d h = blades-le (d - 1) (omega arith)
 
 -- the masks of grade 1 are as many as the dimensions
 pub vector-length : (d : ℕ) → length (take d (drop 1 (order d))) ≡ d
@@ -203,6 +116,17 @@ module _ {ℓ κ} {A : Type ℓ} {B : Type κ} (f : A → B) where
 pub all-back : (d : ℕ) (a : List Float) → length a ≡ 2 ^ d → map (coef d a) (order d) ≡ a
 all-back d a e = ordered (coef d a) d a e (λ m h. refl)
 
+-- a part of the order reads that part of them
+pub part-read : (d first count : ℕ) (a : List Float) → length a ≡ 2 ^ d → map (coef d a) (take count (drop first (order d))) ≡ take count (drop first a)
+part-read d first count a e =
+    map-take (coef d a) count (drop first (order d))
+    ∙ ap (take count) (map-drop (coef d a) first (order d) ∙ ap (drop first) (all-back d a e))
+
+-- the vector, written from the front
+pub vector-read : (d : ℕ) (a out : List Float) → length a ≡ 2 ^ d → d ≤ length out → sets out 0 (take d (drop 1 a)) ≡ laid (map (coef d a) (take d (drop 1 (order d)))) out
+vector-read d a out e h =
+    rw (part-read d 1 d a e) (sets-laid (take d (drop 1 a)) out (omega (arith, length-take d (drop 1 a))))
+
 -- the numbers of a grade, where they were put
 pub grade-back : (d g : ℕ) (v : List Float) → size d g ≡ length v → take (size d g) (drop (start d g) (atGrade d g v)) ≡ v
 unfolding atGrade padded
@@ -214,8 +138,8 @@ pub vector-back : (v : List Float) → map (coef (length v) (atGrade (length v) 
 vector-back v =
     let n : ℕ = length v in
     let a : List Float = atGrade n 1 v in
-    map-take (coef n a) n (drop 1 (order n)) ∙ ap (take n) (map-drop (coef n a) 1 (order n))
-    ∙ rw (all-back n a (length-grade-set n 1 v (vector-fits n))) (rw (size-one n, start-one n) at (grade-back n 1 v (size-one n)))
+    part-read n 1 n a (length-grade-set n 1 v (vector-fits n))
+    ∙ (rw (size-one n, start-one n) at (grade-back n 1 v (size-one n)))
 
 -- where each mask of a list has its number of a half set, those of that parity have the numbers that were given
 module _ (odd : ℕ) (f : ℕ → Float) where

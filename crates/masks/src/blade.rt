@@ -3,8 +3,8 @@ use super::gather::coefficient;
 use super::gather::copy_all;
 use super::gather::resize;
 use super::order::blades;
+use super::order::place_of;
 use super::order::size_of;
-use super::order::sorted_order;
 use super::order::start_of;
 use super::outcome::Answer;
 use super::outcome::DONE;
@@ -21,7 +21,7 @@ use super::shape::Shape;
 ghost use mathlib.Core.Path.{_≡_};
 ghost use Prim.Native.Nat.{_-_, _≤_, _<_, _^_};
 ghost use lib.ListN.{length, set};
-ghost use Rattle.masks.specs.Order.{place, placesOf};
+ghost use Rattle.masks.specs.Order.{place};
 ghost use Rattle.masks.specs.Outcome.{Gives, refusal, laid};
 ghost use Rattle.masks.specs.Blade.{getBlade, setBladeTests, setBlade, bladeDims, gradeRefusal, gradePart};
 
@@ -57,12 +57,12 @@ fn set_blade_refusal(dims: u8, mask: usize, count: usize, room: usize) -> u8
 }
 
 // A value with x at a mask that it has.
-fn put_blade(dims: u8, places: &[u16; 512], mask: usize, x: f64, a: &[f64], out: &mut [f64])
-    requires { ⌜ (dims ≤ 9) × (now places ≡ placesOf dims) × (mask < 2 ^ dims) × (length (now a) ≡ 2 ^ dims) × (2 ^ dims ≤ length (now out)) ⌝ }
+fn put_blade(dims: u8, mask: usize, x: f64, a: &[f64], out: &mut [f64])
+    requires { ⌜ (dims ≤ 9) × (mask < 2 ^ dims) × (length (now a) ≡ 2 ^ dims) × (2 ^ dims ≤ length (now out)) ⌝ }
     ensures { λ _. ⌜ now (out .exit) ≡ laid (set (now (a .entry)) (place dims mask) x) (now (out .entry)) ⌝ }
 {
     copy_all(a, out);
-    let p = places[mask] as usize;
+    let p = place_of(dims, mask as u32);
     out[p] = x;
 }
 
@@ -79,10 +79,9 @@ impl Shape {
                 value: 0.0,
             };
         }
-        let o = sorted_order(dims);
         Real {
             number: DONE,
-            value: coefficient(dims, &o.places, a, mask),
+            value: coefficient(dims, a, mask),
         }
     }
 
@@ -95,14 +94,12 @@ impl Shape {
         if no != DONE {
             return refused(no);
         }
-        let o = sorted_order(dims);
         if mask < blades(dims) {
-            put_blade(dims, &o.places, mask, x, a, out);
+            put_blade(dims, mask, x, a, out);
             return done(self);
         }
-        let next = sorted_order(dims + 1);
         let mut held = [0.0; 512];
-        resize(dims, dims + 1, &next.masks, &o.places, a, &mut held);
+        resize(dims, dims + 1, a, &mut held);
         let count = blades(dims + 1);
         self.with_dims(dims + 1)
             .set_blade(mask, x, &held[..count], out)

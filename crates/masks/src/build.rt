@@ -1,9 +1,10 @@
 // Building values from few numbers.
 use super::flavor::Flavor;
+use super::gather::clear_part;
 use super::gather::copy_all;
+use super::gather::copy_part;
 use super::order::blades;
 use super::order::size_of;
-use super::order::sorted_order;
 use super::order::start_of;
 use super::outcome::Answer;
 use super::outcome::DONE;
@@ -32,29 +33,13 @@ pub enum Packing {
     Nothing,
 }
 
-// The number at place k where v stands from the place `first` on, and +0 elsewhere.
-fn number_within(first: usize, v: &[f64], k: usize) -> f64
-    ensures { λ r. ⌜ ((n : ℕ) → first + length (now (v .entry)) ≤ n → k < n → r ≡ getD (padded first (now (v .entry)) n) k nan) ⌝ }
-{
-    if first <= k {
-        let i = k - first;
-        if i < v.len() {
-            return v[i];
-        }
-    }
-    0.0
-}
-
 // The numbers of v from the place `first` on, and +0 in the other of n places.
 fn pad(first: usize, v: &[f64], n: usize, out: &mut [f64])
     requires { ⌜ (first + length (now v) ≤ n) × (n ≤ length (now out)) ⌝ }
     ensures { λ _. ⌜ now (out .exit) ≡ laid (padded first (now (v .entry)) n) (now (out .entry)) ⌝ }
 {
-    let mut k: usize = 0;
-    while k < n {
-        out[k] = number_within(first, v, k);
-        k += 1;
-    }
+    clear_part(n, out, 0);
+    copy_part(v, 0, v.len(), out, first);
 }
 
 // The numbers of one grade, and +0 in the others.
@@ -168,34 +153,25 @@ fn packing_of(odd: u32, dims: u8, n: usize) -> Packing
     first_grade(dims, n, (dims + 1) / 2, dims + 1)
 }
 
-// Numbers given in turn to the first n masks of one parity, and +0 to the others.
-fn spread_over(odd: u32, n: usize, masks: &[u16; 512], v: &[f64], out: &mut [f64])
-    requires { ⌜ (n ≤ 512) × (length (now v) ≡ length (choose odd (take n (now masks)))) × (n ≤ length (now out)) ⌝ }
-    ensures { λ _. ⌜ now (out .exit) ≡ laid (spread odd (take n (now (masks .entry))) (now (v .entry))) (now (out .entry)) ⌝ }
-{
-    // As a slice, of which the proof knows the elements' range.
-    let all = &masks[..];
-    let mut at: usize = 0;
-    let mut k: usize = 0;
-    while k < n {
-        let m = all[k];
-        if u32::count_ones(m as u32) % 2 == odd {
-            out[k] = v[at];
-            at += 1;
-        } else {
-            out[k] = 0.0;
-        }
-        k += 1;
-    }
-}
-
-// A half set of blades.
+// A half set of blades: the grades of one parity take the numbers in turn, and the others are +0.
 fn fill_half(odd: u32, dims: u8, v: &[f64], out: &mut [f64])
     requires { ⌜ (odd ≤ 1) × (dims ≤ 9) × (2 * length (now v) ≡ 2 ^ dims) × (2 ^ dims ≤ length (now out)) ⌝ }
     ensures { λ _. ⌜ now (out .exit) ≡ laid (spread odd (order dims) (now (v .entry))) (now (out .entry)) ⌝ }
 {
-    let o = sorted_order(dims);
-    spread_over(odd, blades(dims), &o.masks, v, out);
+    let mut i: usize = 0;
+    let mut k: usize = 0;
+    let mut g: u8 = 0;
+    while g <= dims {
+        let count = size_of(dims, g);
+        if g as u32 % 2 == odd {
+            copy_part(v, i, count, out, k);
+            i += count;
+        } else {
+            clear_part(count, out, k);
+        }
+        k += count;
+        g += 1;
+    }
 }
 
 // Blades packed on one side.

@@ -1,64 +1,28 @@
-// Coefficients read by mask and written from the front of an output: what changes of shape and unpacking share.
+// Coefficients read by mask and by grade, and written from the front of an output: what changes of shape, building and unpacking share.
 use super::order::blades;
-use super::order::sorted_order;
-use super::order::zeros;
+use super::order::place_of;
+use super::order::size_of;
+use super::walk::grow;
+use super::walk::shrink;
 ghost use mathlib.Core.Path.{_≡_};
 ghost use mathlib.Core.List.{map};
 ghost use Prim.Native.Nat.{_+_, _^_, _≤_, _<_};
-ghost use lib.ListN.{length, take, drop};
-ghost use Rattle.masks.specs.Order.{masksOf, placesOf};
-ghost use Rattle.masks.specs.Outcome.{laid};
-ghost use Rattle.masks.specs.Shape.{coef, negatedIf, resized, promoted, conformed};
-ghost use Rattle.masks.specs.inner.Gather.{negatedAt, turnedMask, lowered};
-
-// A mask that no value has.
-pub(crate) const NO_MASK: u16 = 512;
-
-// What no mask is, NO_MASK among them: nothing is negated.
-pub(crate) const UNTURNED: u16 = 1024;
+ghost use lib.ListN.{length, take, drop, replicate};
+ghost use lib.Seq.{sets};
+ghost use Rattle.masks.specs.Order.{order};
+ghost use Rattle.masks.specs.Outcome.{laid, nought};
+ghost use Rattle.masks.specs.Shape.{coef, negates, resized, promoted, conformed};
 
 // The coefficient of a mask: +0 for a mask outside.
-pub(crate) fn coefficient(dims: u8, places: &[u16; 512], a: &[f64], mask: usize) -> f64
-    requires { ⌜ (dims ≤ 9) × (now places ≡ placesOf dims) × (length (now a) ≡ 2 ^ dims) ⌝ }
+pub(crate) fn coefficient(dims: u8, a: &[f64], mask: usize) -> f64
+    requires { ⌜ (dims ≤ 9) × (length (now a) ≡ 2 ^ dims) ⌝ }
     ensures { λ r. ⌜ r ≡ coef dims (now (a .entry)) mask ⌝ }
 {
     if mask < blades(dims) {
-        let p = places[mask] as usize;
+        let p = place_of(dims, mask as u32);
         a[p]
     } else {
         0.0
-    }
-}
-
-fn negated_if(t: bool, x: f64) -> f64
-    ensures { λ r. ⌜ r ≡ negatedIf t x ⌝ }
-{
-    if t { -x } else { x }
-}
-
-// The coefficients of `count` masks from the place `first` on, negated at the mask `turned`.
-pub(crate) fn gather<'o>(
-    masks: &'o [u16; 512],
-    first: usize,
-    count: usize,
-    dims: u8,
-    places: &'o [u16; 512],
-    turned: u16,
-    a: &[f64],
-    out: &mut [f64],
-)
-    requires { ⌜ (dims ≤ 9) × (now places ≡ placesOf dims) × (length (now a) ≡ 2 ^ dims) ⌝ }
-    requires { ⌜ (first + count ≤ 512) × (count ≤ length (now out)) ⌝ }
-    ensures { λ _. ⌜ now (out .exit) ≡ laid (map (negatedAt turned dims (now (a .entry))) (take count (drop first (now (masks .entry))))) (now (out .entry)) ⌝ }
-{
-    // As a slice, of which the proof knows the elements' range.
-    let all = &masks[..];
-    let mut k: usize = 0;
-    while k < count {
-        let m = all[first + k];
-        let x = coefficient(dims, places, a, m as usize);
-        out[k] = negated_if(m == turned, x);
-        k += 1;
     }
 }
 
@@ -73,107 +37,113 @@ pub(crate) fn copy_all(a: &[f64], out: &mut [f64])
     }
 }
 
-// The mask that is negated where dimensions change, or none.
-fn turned_mask(dims: u8, new_dims: u8) -> u16
-    ensures { λ r. ⌜ r ≡ turnedMask dims «new_dims» ⌝ }
+// `count` numbers from the place `first` on, written from the place `at` on.
+pub(crate) fn copy_part(a: &[f64], first: usize, count: usize, out: &mut [f64], at: usize)
+    requires { ⌜ (first + count ≤ length (now a)) × (at + count ≤ length (now out)) ⌝ }
+    ensures { λ _. ⌜ now (out .exit) ≡ sets (now (out .entry)) at (take count (drop first (now (a .entry)))) ⌝ }
+{
+    let mut k: usize = 0;
+    while k < count {
+        out[at + k] = a[first + k];
+        k += 1;
+    }
+}
+
+// +0 at `count` places from `at` on.
+pub(crate) fn clear_part(count: usize, out: &mut [f64], at: usize)
+    requires { ⌜ at + count ≤ length (now out) ⌝ }
+    ensures { λ _. ⌜ now (out .exit) ≡ sets (now (out .entry)) at (replicate count nought) ⌝ }
+{
+    let mut k: usize = 0;
+    while k < count {
+        out[at + k] = 0.0;
+        k += 1;
+    }
+}
+
+// All coefficients at d dimensions.
+pub(crate) fn read_all(dims: u8, d: u8, a: &[f64], out: &mut [f64])
+    requires { ⌜ (dims ≤ 9) × (d ≤ 9) × (length (now a) ≡ 2 ^ dims) × (2 ^ d ≤ length (now out)) ⌝ }
+    ensures { λ _. ⌜ now (out .exit) ≡ laid (map (coef dims (now (a .entry))) (order d)) (now (out .entry)) ⌝ }
+{
+    if dims == d {
+        copy_all(a, out);
+        return;
+    }
+    if dims < d {
+        grow(dims, d, a, out);
+        return;
+    }
+    shrink(dims, d, a, out);
+}
+
+// Whether a change of dimensions negates mask 101.
+fn turns(dims: u8, new_dims: u8) -> bool
+    ensures { λ r. ⌜ r ≡ negates dims «new_dims» 5 ⌝ }
 {
     if dims == 3 {
-        if 3 < new_dims {
-            return 5;
-        }
-        return NO_MASK;
+        return 3 < new_dims;
     }
     if new_dims == 3 {
-        if 3 < dims {
-            return 5;
-        }
-        return NO_MASK;
+        return 3 < dims;
     }
-    NO_MASK
+    false
 }
 
-// A value at other dimensions: the masks are of the new ones, and the places of the old.
-pub(crate) fn resize<'o>(
-    dims: u8,
-    new_dims: u8,
-    masks: &'o [u16; 512],
-    places: &'o [u16; 512],
-    a: &[f64],
-    out: &mut [f64],
-)
+// A value at other dimensions: its coefficients there, that of mask 101 negated where the change does.
+pub(crate) fn resize(dims: u8, new_dims: u8, a: &[f64], out: &mut [f64])
     requires { ⌜ (dims ≤ 9) × («new_dims» ≤ 9) × (length (now a) ≡ 2 ^ dims) × (2 ^ «new_dims» ≤ length (now out)) ⌝ }
-    requires { ⌜ (now masks ≡ masksOf «new_dims») × (now places ≡ placesOf dims) ⌝ }
     ensures { λ _. ⌜ now (out .exit) ≡ laid (resized dims «new_dims» (now (a .entry))) (now (out .entry)) ⌝ }
 {
-    let turned = turned_mask(dims, new_dims);
-    gather(masks, 0, blades(new_dims), dims, places, turned, a, out);
-}
-
-// The masks that the first n come from where bit i has become bit i + 1.
-fn lower_masks(n: usize, masks: &[u16; 512], to: &mut [u16; 512])
-    requires { ⌜ n ≤ 512 ⌝ }
-    ensures { λ _. ⌜ now (to .exit) ≡ laid (map lowered (take n (now (masks .entry)))) (now (to .entry)) ⌝ }
-{
-    // As a slice, of which the proof knows the elements' range.
-    let all = &masks[..];
-    // As a slice, of which the proof knows the length.
-    let room = &mut to[..];
-    let mut i: usize = 0;
-    while i < n {
-        let m = all[i];
-        room[i] = lower(m);
-        i += 1;
+    read_all(dims, new_dims, a, out);
+    if turns(dims, new_dims) {
+        let p = place_of(new_dims, 5);
+        out[p] = -out[p];
     }
 }
 
-fn lower(m: u16) -> u16
-    ensures { λ r. ⌜ r ≡ lowered m ⌝ }
-{
-    if m % 2 == 0 { m / 2 } else { NO_MASK }
-}
-
-// A value at one dimension more, its bit i become bit i + 1: the masks are of the new dimensions, and the places of the old.
-fn promote<'o>(dims: u8, masks: &'o [u16; 512], places: &'o [u16; 512], a: &[f64], out: &mut [f64])
+// A value at one dimension more, its bit i become bit i + 1. In each grade the masks that have bit 0 come first, as many as the grade below has, and are +0;
+// then come the value's own.
+fn promote(dims: u8, a: &[f64], out: &mut [f64])
     requires { ⌜ (dims < 9) × (length (now a) ≡ 2 ^ dims) × (2 ^ (dims + 1) ≤ length (now out)) ⌝ }
-    requires { ⌜ (now masks ≡ masksOf (dims + 1)) × (now places ≡ placesOf dims) ⌝ }
     ensures { λ _. ⌜ now (out .exit) ≡ laid (promoted 1 dims (now (a .entry))) (now (out .entry)) ⌝ }
 {
-    let n = blades(dims + 1);
-    let mut lowered = zeros();
-    lower_masks(n, masks, &mut lowered);
-    gather(&lowered, 0, n, dims, places, UNTURNED, a, out);
+    out[0] = a[0];
+    let mut below: usize = 1;
+    let mut i: usize = 1;
+    let mut k: usize = 1;
+    let mut g: u8 = 0;
+    while g <= dims {
+        clear_part(below, out, k);
+        k += below;
+        g += 1;
+        below = size_of(dims, g);
+        copy_part(a, i, below, out, k);
+        i += below;
+        k += below;
+    }
 }
 
-// A value promoted by `up` dimensions, 0 or 1, and then at others. Only an order between the two that are given is built.
-pub(crate) fn conform_by<'o>(
-    up: u8,
-    dims: u8,
-    new_dims: u8,
-    masks: &'o [u16; 512],
-    places: &'o [u16; 512],
-    a: &[f64],
-    out: &mut [f64],
-)
+// A value promoted by `up` dimensions, 0 or 1, and then at others.
+pub(crate) fn conform_by(up: u8, dims: u8, new_dims: u8, a: &[f64], out: &mut [f64])
     requires { ⌜ (up ≤ 1) × (dims + up ≤ 9) × («new_dims» ≤ 9) × (length (now a) ≡ 2 ^ dims) × (2 ^ «new_dims» ≤ length (now out)) ⌝ }
-    requires { ⌜ (now masks ≡ masksOf «new_dims») × (now places ≡ placesOf dims) ⌝ }
     ensures { λ _. ⌜ now (out .exit) ≡ laid (conformed up dims «new_dims» (now (a .entry))) (now (out .entry)) ⌝ }
 {
     if up == 0 {
-        resize(dims, new_dims, masks, places, a, out);
+        resize(dims, new_dims, a, out);
         return;
     }
     if dims + 1 == new_dims {
-        promote(dims, masks, places, a, out);
+        promote(dims, a, out);
         return;
     }
-    let next = sorted_order(dims + 1);
     let mut held = [0.0; 512];
-    promote(dims, &next.masks, places, a, &mut held);
+    promote(dims, a, &mut held);
     let count = blades(dims + 1);
-    resize(dims + 1, new_dims, masks, &next.places, &held[..count], out);
+    resize(dims + 1, new_dims, &held[..count], out);
 }
 
-// The same of a value by itself: where the dimensions stay, it is copied and no order is built.
+// The same, where the dimensions may stay: then it is copied.
 pub(crate) fn conform_one(up: u8, dims: u8, new_dims: u8, a: &[f64], out: &mut [f64])
     requires { ⌜ (up ≤ 1) × (dims + up ≤ 9) × («new_dims» ≤ 9) × (length (now a) ≡ 2 ^ dims) × (2 ^ «new_dims» ≤ length (now out)) ⌝ }
     requires { ⌜ (dims ≡ «new_dims» → up ≡ 0) ⌝ }
@@ -183,7 +153,5 @@ pub(crate) fn conform_one(up: u8, dims: u8, new_dims: u8, a: &[f64], out: &mut [
         copy_all(a, out);
         return;
     }
-    let from = sorted_order(dims);
-    let to = sorted_order(new_dims);
-    conform_by(up, dims, new_dims, &to.masks, &from.places, a, out);
+    conform_by(up, dims, new_dims, a, out);
 }

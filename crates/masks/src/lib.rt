@@ -9,3 +9,4 @@ pub mod shape;
 pub mod shape_bytes;
 pub mod text;
 pub mod unpack;
+mod walk;

@@ -4,7 +4,6 @@ use super::gather::conform_by;
 use super::gather::conform_one;
 use super::order::blades;
 use super::order::blades_or_none;
-use super::order::sorted_order;
 use super::outcome::Answer;
 use super::outcome::Answers;
 use super::outcome::DONE;
@@ -82,7 +81,7 @@ fn conform_refusal(
     DONE
 }
 
-// Two values, each promoted by its `up` dimensions, 0 or 1, and then at n: no order is built twice.
+// Two values, each promoted by its `up` dimensions, 0 or 1, and then at n.
 fn conform_both(
     up: u8,
     dims: u8,
@@ -98,21 +97,13 @@ fn conform_both(
     requires { ⌜ (length (now a) ≡ 2 ^ dims) × (length (now b) ≡ 2 ^ other) × (2 ^ n ≤ length (now out)) × (2 ^ n ≤ length (now «out_right»)) ⌝ }
     ensures { λ _. ⌜ (now (out .exit) ≡ laid (conformed up dims n (now (a .entry))) (now (out .entry))) × (now («out_right» .exit) ≡ laid (conformed «up_right» other n (now (b .entry))) (now («out_right» .entry))) ⌝ }
 {
-    // One of the two is only copied.
     if larger(dims, other) == n {
         conform_one(up, dims, n, a, out);
         conform_one(up_right, other, n, b, out_right);
         return;
     }
-    let to = sorted_order(n);
-    let left = sorted_order(dims);
-    conform_by(up, dims, n, &to.masks, &left.places, a, out);
-    if dims == other {
-        conform_by(up_right, other, n, &to.masks, &left.places, b, out_right);
-        return;
-    }
-    let right = sorted_order(other);
-    conform_by(up_right, other, n, &to.masks, &right.places, b, out_right);
+    conform_by(up, dims, n, a, out);
+    conform_by(up_right, other, n, b, out_right);
 }
 
 impl Shape {

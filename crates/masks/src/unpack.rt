@@ -1,12 +1,10 @@
 // Unpacking a value by mask.
-use super::gather::UNTURNED;
 use super::gather::coefficient;
-use super::gather::copy_all;
-use super::gather::gather;
+use super::gather::copy_part;
+use super::gather::read_all;
 use super::order::blades;
 use super::order::blades_or_none;
-use super::order::sorted_order;
-use super::order::zeros;
+use super::order::size_of;
 use super::outcome::Count;
 use super::outcome::DONE;
 use super::outcome::MAX_DIMS;
@@ -17,8 +15,8 @@ ghost use mathlib.Core.Bool.{cond};
 ghost use mathlib.Core.List.{map};
 ghost use Prim.Native.Nat.{_-_, _≤_, _<_, _^_};
 ghost use lib.Dec.{ltb};
-ghost use lib.ListN.{length, take};
-ghost use Rattle.masks.specs.Order.{order, masksOf, placesOf};
+ghost use lib.ListN.{length};
+ghost use Rattle.masks.specs.Order.{order};
 ghost use Rattle.masks.specs.Outcome.{Writes, laid, refusedCount};
 ghost use Rattle.masks.specs.Shape.{coef};
 ghost use Rattle.masks.specs.Unpack.{choose, halfMasks, halfOf, unpackAll, unpackHalf, unpackOwnHalf, unpackVector};
@@ -27,43 +25,6 @@ fn none(number: u8) -> Count
     ensures { λ r. ⌜ r ≡ refusedCount number ⌝ }
 {
     Count { number, count: 0 }
-}
-
-// Those of the first n masks that have one parity, from the front of a second array; how many there are.
-fn choose_masks(odd: u32, n: usize, masks: &[u16; 512], to: &mut [u16; 512]) -> usize
-    requires { ⌜ n ≤ 512 ⌝ }
-    ensures { λ r. ⌜ (r ≡ length (choose odd (take n (now (masks .entry))))) × (take r (now (to .exit)) ≡ choose odd (take n (now (masks .entry)))) ⌝ }
-{
-    // As a slice, of which the proof knows the elements' range.
-    let all = &masks[..];
-    // As a slice, of which the proof knows the length.
-    let room = &mut to[..];
-    let mut end: usize = 0;
-    let mut i: usize = 0;
-    while i < n {
-        let m = all[i];
-        if u32::count_ones(m as u32) % 2 == odd {
-            room[end] = m;
-            end += 1;
-        }
-        i += 1;
-    }
-    end
-}
-
-// All blades at d dimensions: at the value's own it is copied, and no order is built.
-fn read_all(dims: u8, d: u8, a: &[f64], out: &mut [f64])
-    requires { ⌜ (dims ≤ 9) × (d ≤ 9) × (length (now a) ≡ 2 ^ dims) × (2 ^ d ≤ length (now out)) ⌝ }
-    ensures { λ _. ⌜ now (out .exit) ≡ laid (map (coef dims (now (a .entry))) (order d)) (now (out .entry)) ⌝ }
-{
-    if d == dims {
-        copy_all(a, out);
-        return;
-    }
-    let from = sorted_order(dims);
-    let to = sorted_order(d);
-    let n = blades(d);
-    gather(&to.masks, 0, n, dims, &from.places, UNTURNED, a, out);
 }
 
 // How many even or odd blades there are.
@@ -79,23 +40,23 @@ fn half_count(dims: u8) -> usize
     blades(dims - 1)
 }
 
-// The even (0) or odd (1) blades at d dimensions, which are not 0: the masks are of these, and the places of the value's.
-fn read_half<'o>(
-    odd: u32,
-    dims: u8,
-    d: u8,
-    masks: &'o [u16; 512],
-    places: &'o [u16; 512],
-    a: &[f64],
-    out: &mut [f64],
-)
-    requires { ⌜ (odd ≤ 1) × (dims ≤ 9) × (0 < d) × (d ≤ 9) × (length (now a) ≡ 2 ^ dims) × (2 ^ (d - 1) ≤ length (now out)) ⌝ }
-    requires { ⌜ (now masks ≡ masksOf d) × (now places ≡ placesOf dims) ⌝ }
-    ensures { λ _. ⌜ now (out .exit) ≡ laid (map (coef dims (now (a .entry))) (choose odd (order d))) (now (out .entry)) ⌝ }
+// The grades of one parity, even (0) or odd (1), one after the other.
+fn take_half(odd: u32, dims: u8, a: &[f64], out: &mut [f64])
+    requires { ⌜ (odd ≤ 1) × (0 < dims) × (dims ≤ 9) × (length (now a) ≡ 2 ^ dims) × (2 ^ (dims - 1) ≤ length (now out)) ⌝ }
+    ensures { λ _. ⌜ now (out .exit) ≡ laid (map (coef dims (now (a .entry))) (choose odd (order dims))) (now (out .entry)) ⌝ }
 {
-    let mut chosen = zeros();
-    let count = choose_masks(odd, blades(d), masks, &mut chosen);
-    gather(&chosen, 0, count, dims, places, UNTURNED, a, out);
+    let mut i: usize = 0;
+    let mut k: usize = 0;
+    let mut g: u8 = 0;
+    while g <= dims {
+        let count = size_of(dims, g);
+        if g as u32 % 2 == odd {
+            copy_part(a, i, count, out, k);
+            k += count;
+        }
+        i += count;
+        g += 1;
+    }
 }
 
 // The even (0) or odd (1) blades at d dimensions; where d is 0, the coefficient of the mask `lone`.
@@ -103,17 +64,18 @@ fn half(odd: u32, lone: usize, dims: u8, d: u8, a: &[f64], out: &mut [f64])
     requires { ⌜ (odd ≤ 1) × (dims ≤ 9) × (d ≤ 9) × (length (now a) ≡ 2 ^ dims) × (2 ^ (d - 1) ≤ length (now out)) ⌝ }
     ensures { λ _. ⌜ now (out .exit) ≡ laid (map (coef dims (now (a .entry))) (halfMasks odd lone d)) (now (out .entry)) ⌝ }
 {
-    let from = sorted_order(dims);
     if d == 0 {
-        out[0] = coefficient(dims, &from.places, a, lone);
+        out[0] = coefficient(dims, a, lone);
         return;
     }
     if d == dims {
-        read_half(odd, dims, d, &from.masks, &from.places, a, out);
+        take_half(odd, d, a, out);
         return;
     }
-    let to = sorted_order(d);
-    read_half(odd, dims, d, &to.masks, &from.places, a, out);
+    let mut held = [0.0; 512];
+    read_all(dims, d, a, &mut held);
+    let count = blades(d);
+    take_half(odd, d, &held[..count], out);
 }
 
 // The even or odd blades of a value, with refusals.
@@ -189,8 +151,7 @@ impl Shape {
         if no != DONE {
             return none(no);
         }
-        let o = sorted_order(dims);
-        gather(&o.masks, 1, needed, dims, &o.places, UNTURNED, a, out);
+        copy_part(a, 1, needed, out, 0);
         Count {
             number: DONE,
             count: needed,

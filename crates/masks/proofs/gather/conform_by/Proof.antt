@@ -5,18 +5,14 @@ use native.Mathlib.Omega.{arith}
 use borrow.Author.Needs.{needs}
 use lib.ListN.{length}
 use lib.Seq.{length-take-le}
-use Rattle.masks.specs.Order.{masksOf}
 use Rattle.masks.specs.Outcome.{laid}
-use Rattle.masks.proofs.OrderLaws.{blades-le, built-masks, built-places}
+use Rattle.masks.proofs.OrderLaws.{blades-le}
 use Rattle.masks.proofs.ShapeLaws.{one, promoted-one, conformed-none, conformed-same, conformed-one}
 use Rattle.masks.proofs.gather.conform_by.Statement.{statement}
 use Rattle.masks.proofs.gather.conform_by.Tie as tie
 
 resize-requires : tie.Need-resize-requires
-resize-requires c κs =
-    let s = c .before .before .before .before in
-    let p = s .pre .0 in
-    ((omega (arith, p .1), p .2, p .3, p .4), s .pre .1)
+resize-requires c κs = search needs
 
 same-length : tie.Need-same-length
 same-length c = search needs
@@ -34,21 +30,21 @@ module _ (c : tie.Else1) where
   s = c .before .before .before
 
   more : s .args .dims + 1 ≤ 9
-  more = omega (arith, one (s .args .up) (s .pre .0 .0) (c .if1 .left), s .pre .0 .1)
+  more = omega (arith, one (s .args .up) (s .pre .0) (c .if1 .left), s .pre .1)
 
   few : 2 ^ (s .args .dims + 1) ≤ 512
   few = blades-le (s .args .dims + 1) more
 
 add-if2 : tie.Need-add-if2
-add-if2 c = omega (arith, more c)
+add-if2 c = search needs
 
 promote-requires : tie.Need-promote-requires
 promote-requires c κs =
     let j = c .before in
     let i = j .before in
     let p = s i .pre in
-    let r : 2 ^ (s i .args .dims + 1) ≤ length (s i .args .out .now) = omega (arith, p .0 .4, ap (λ n. 2 ^ n) (j .if2 .taken)) in
-    ((omega (arith, more i), p .0 .3, r), (p .1 .0 ∙ ap masksOf (sym (j .if2 .taken)), p .1 .1))
+    let r : 2 ^ (s i .args .dims + 1) ≤ length (s i .args .out .now) = omega (arith, p .4, ap (λ n. 2 ^ n) (j .if2 .taken)) in
+    (omega (arith, more i), p .3, r)
 
 same-length-2 : tie.Need-same-length-2
 same-length-2 c = search needs
@@ -58,71 +54,58 @@ returns-2 c =
     let j = c .before .before .before .before in
     let i = j .before in
     let a = s i .args in
-    let p = s i .pre .0 in
+    let p = s i .pre in
     let e : a .dims + a .up ≡ a .new-dims = omega (arith, one (a .up) (p .0) (i .if1 .left), j .if2 .taken) in
     c .before .before .promote .ensures
     ∙ ap (λ xs. laid xs (a .out .now))
     (promoted-one (a .up) (a .dims) (a .a .now) (p .0) (i .if1 .left) ∙ sym (conformed-same (a .up) (a .dims) (a .new-dims) (a .a .now) (p .0) e (p .2) (p .3)))
 
-add-sorted-order : tie.Need-add-sorted-order
-add-sorted-order c = omega (arith, more (c .before))
-
-sorted-order-requires : tie.Need-sorted-order-requires
-sorted-order-requires c κs = more (c .before)
-
 slice-aggregate-promote : tie.Need-slice-aggregate-promote
 slice-aggregate-promote c = search needs
 
 promote-requires-2 : tie.Need-promote-requires-2
-promote-requires-2 c κs =
-    let o = c .before .before .before in
-    let i = o .before .before in
-    ((omega (arith, more i), s i .pre .0 .3, few i), (built-masks (o .sorted-order .ensures), s i .pre .1 .1))
+promote-requires-2 c κs = let i = c .before .before in (omega (arith, more i), s i .pre .3, few i)
 
 add-blades : tie.Need-add-blades
-add-blades c = omega (arith, more (c .before .before .before .before .before .before .before))
+add-blades c = search needs
+
+blades-requires : tie.Need-blades-requires
+blades-requires c κs = search needs
 
 -- what the second step rests on
 module _ (c : tie.After-blades) where
-  abbrev o : tie.After-sorted-order
-  o = c .before .before .before .before .before .before
-
   abbrev i : tie.Else1
-  i = o .before .before
+  i = c .before .before .before .before .before
 
   -- the buffer has as many numbers as there are blades
-  enough : c .blades .result ≤ length (c .before .before .promote2 .last .1 .1 .1 .1 .0)
-  enough = omega (arith, c .blades .ensures, few i, c .before .before .promote2 .kept .1 .1 .1 .1 .0)
-
-blades-requires : tie.Need-blades-requires
-blades-requires c κs = more (c .before .before .before .before .before .before .before)
+  enough : c .blades .result ≤ length (c .before .before .promote2 .last .1 .1 .0)
+  enough = omega (arith, c .blades .ensures, few i, c .before .before .promote2 .kept .1 .1 .0)
 
 add-resize : tie.Need-add-resize
-add-resize c = omega (arith, more (i c))
+add-resize c = search needs
 
 array-share-prefix-held : tie.Need-array-share-prefix-held
-array-share-prefix-held c = enough (c .before .before)
+array-share-prefix-held c = enough c
 
 slice-aggregate-resize : tie.Need-slice-aggregate-resize
-slice-aggregate-resize c = sym (length-take-le _ _ (enough (c .before .before .before)))
+slice-aggregate-resize c = sym (length-take-le _ _ (enough (c .before)))
 
 resize-requires-2 : tie.Need-resize-requires-2
 resize-requires-2 c κs =
-    let b = c .before .before .before .before in
-    let m = more (i b) in
+    let b = c .before .before in
     let p = s (i b) .pre in
-    ((m, p .0 .2, length-take-le _ _ (enough b) ∙ b .blades .ensures, p .0 .4), (p .1 .0, built-places (o b .sorted-order .ensures)))
+    (more (i b), p .2, length-take-le _ _ (enough b) ∙ b .blades .ensures, p .4)
 
 same-length-3 : tie.Need-same-length-3
 same-length-3 c = search needs
 
 returns-3 : tie.Need-returns-3
 returns-3 c =
-    let b = c .before .before .before .before .before .before .before in
+    let b = c .before .before .before .before .before in
     let a = s (i b) .args in
     c .before .before .resize2 .ensures
     ∙ ap (λ xs. laid xs (a .out .now))
-    (conformed-one (a .up) (a .dims) (a .new-dims) _ (a .a .now) _ _ (s (i b) .pre .0 .0) (i b .if1 .left) (b .blades .ensures) (b .before .before .promote2 .ensures))
+    (conformed-one (a .up) (a .dims) (a .new-dims) _ (a .a .now) _ _ (s (i b) .pre .0) (i b .if1 .left) (b .blades .ensures) (b .before .before .promote2 .ensures))
 
 pub conform-by-spec : {M : Type 1} → statement M
 conform-by-spec =
@@ -135,8 +118,6 @@ conform-by-spec =
     promote-requires
     same-length-2
     returns-2
-    add-sorted-order
-    sorted-order-requires
     slice-aggregate-promote
     promote-requires-2
     add-blades

@@ -7,11 +7,10 @@ use borrow.Fn.Kinds.{In}
 use borrow.Fn.PlainCycle.{Measures, is, falls, and}
 use lib.ListN.{length}
 use lib.Seq.{length-take-le}
-use Rattle.masks.specs.Order.{placesOf}
 use Rattle.masks.specs.Outcome.{laid, Gives}
 use Rattle.masks.specs.Shape.{withDims}
 use Rattle.masks.specs.Blade.{setBlade}
-use Rattle.masks.proofs.OrderLaws.{blades-le, built-masks, built-places}
+use Rattle.masks.proofs.OrderLaws.{blades-le}
 use Rattle.masks.proofs.OutcomeLaws.{gives-refused, gives-done}
 use Rattle.masks.proofs.ShapeLaws.{resized-held}
 use Rattle.masks.proofs.BladeLaws.{below-nine, dims-here, blade-here, Placed, placed, blade-grown}
@@ -22,7 +21,6 @@ use Rattle.masks.proofs.blade.put_blade.Reads as put-blade-reads
 use Rattle.masks.proofs.blade.set_blade_refusal.Reads as set-blade-refusal-reads
 use Rattle.masks.proofs.gather.resize.Reads as resize-reads
 use Rattle.masks.proofs.order.blades.Reads as blades-reads
-use Rattle.masks.proofs.order.sorted_order.Reads as sorted-order-reads
 use Rattle.masks.proofs.outcome.done.Reads as done-reads
 use Rattle.masks.proofs.outcome.refused.Reads as refused-reads
 use Rattle.masks.proofs.shape.Shape.with_dims.Reads as with-dims-reads
@@ -47,8 +45,6 @@ claims t = (
   set-blade-refusal-reads.Learnt,
   refused-reads.Asked,
   refused-reads.Learnt,
-  sorted-order-reads.Asked,
-  sorted-order-reads.Learnt,
   blades-reads.Asked,
   blades-reads.Learnt,
   put-blade-reads.Asked,
@@ -82,27 +78,19 @@ module _ (t : ℕ) where
     ok : Placed (s .args .self .dims) (s .args .mask) (length (s .args .a .now)) (length (s .args .out .now))
     ok = placed (s .args .self .dims) (s .args .mask) (length (s .args .a .now)) (length (s .args .out .now)) (sym (c .before .set-blade-refusal .ensures) ∙ c .if1 .left)
 
-  sorted-order-requires : set-blade-lts.Need-sorted-order-requires (claims t) (set-blade-at t) set-blade.Post
-  sorted-order-requires c κs = ok c .small
-
   blades-requires : set-blade-lts.Need-blades-requires (claims t) (set-blade-at t) set-blade.Post
-  blades-requires c κs = ok (c .before) .small
+  blades-requires c κs = ok c .small
 
-  -- the places that are passed
-  places : (c : set-blade-lts.After-sorted-order (claims t) (set-blade-at t) set-blade.Post) → c .sorted-order .result .places ≡ placesOf (s (c .before) .args .self .dims)
-  places c = built-places (c .sorted-order .ensures)
-
-  inside : (c : set-blade-lts.Then2 (claims t) (set-blade-at t) set-blade.Post) → s (c .before .before .before) .args .mask < 2 ^ (s (c .before .before .before) .args .self .dims)
+  inside : (c : set-blade-lts.Then2 (claims t) (set-blade-at t) set-blade.Post) → s (c .before .before) .args .mask < 2 ^ (s (c .before .before) .args .self .dims)
   inside c = omega (arith, c .if2 .taken, c .before .blades .ensures)
 
   put-blade-requires : set-blade-lts.Need-put-blade-requires (claims t) (set-blade-at t) set-blade.Post
   put-blade-requires c κs =
-      let j = c .before .before .before in
-      let o = j .before .before in
-      let i = o .before in
+      let j = c .before in
+      let i = j .before .before in
       let p = ok i in
       let h = inside j in
-      (p .small, places o, h, p .counted, omega (arith, p .roomy, ap (λ n. 2 ^ n) (dims-here (9 - s i .args .self .dims) (s i .args .self .dims) (s i .args .mask) h)))
+      (p .small, h, p .counted, omega (arith, p .roomy, ap (λ n. 2 ^ n) (dims-here (9 - s i .args .self .dims) (s i .args .self .dims) (s i .args .mask) h)))
 
   done-requires : set-blade-lts.Need-done-requires (claims t) (set-blade-at t) set-blade.Post
   done-requires c κs = tt
@@ -113,8 +101,8 @@ module _ (t : ℕ) where
   returns-2 : set-blade-lts.Need-returns-2 (claims t) (set-blade-at t) set-blade.Post
   unfolding setBlade
   returns-2 c =
-      let j = c .before .before .before .before .before .before .before in
-      let i = j .before .before .before in
+      let j = c .before .before .before .before .before in
+      let i = j .before .before in
       let a = s i .args in
       let k = 9 - a .self .dims in
       gives-done _ _ _ _ _ _ (i .before .set-blade-refusal .ensures) (i .if1 .left)
@@ -125,7 +113,7 @@ module _ (t : ℕ) where
   -- the mask is outside
   module _ (c : set-blade-lts.Else2 (claims t) (set-blade-at t) set-blade.Post) where
     abbrev i : set-blade-lts.Else1 (claims t) (set-blade-at t) set-blade.Post
-    i = c .before .before .before
+    i = c .before .before
 
     outside : 2 ^ (s i .args .self .dims) ≤ s i .args .mask
     outside = omega (arith, c .if2 .left, c .before .blades .ensures)
@@ -136,29 +124,21 @@ module _ (t : ℕ) where
     few : 2 ^ (s i .args .self .dims + 1) ≤ 512
     few = blades-le (s i .args .self .dims + 1) (omega (arith, more))
 
-  add-sorted-order : set-blade-lts.Need-add-sorted-order (claims t) (set-blade-at t) set-blade.Post
-  add-sorted-order c = omega (arith, more c)
-
-  sorted-order-requires-2 : set-blade-lts.Need-sorted-order-requires-2 (claims t) (set-blade-at t) set-blade.Post
-  sorted-order-requires-2 c κs = omega (arith, more c)
-
   add-resize : set-blade-lts.Need-add-resize (claims t) (set-blade-at t) set-blade.Post
-  add-resize c = omega (arith, more (c .before))
+  add-resize c = omega (arith, more c)
 
   slice-aggregate-resize : set-blade-lts.Need-slice-aggregate-resize (claims t) (set-blade-at t) set-blade.Post
   slice-aggregate-resize c = search needs
 
   resize-requires : set-blade-lts.Need-resize-requires (claims t) (set-blade-at t) set-blade.Post
   resize-requires c κs =
-      let n = c .before .before .before .before .before in
-      let j = n .before in
+      let j = c .before in
       let p = ok (i j) in
-      let m : s (i j) .args .self .dims + 1 ≤ 9 = omega (arith, more j) in
-      ((p .small, m, p .counted, few j), (built-masks (n .sorted-order2 .ensures), places (j .before .before)))
+      (p .small, omega (arith, more j), p .counted, few j)
 
   -- where the value is grown
   abbrev grown : set-blade-lts.After-held2 (claims t) (set-blade-at t) set-blade.Post → set-blade-lts.Else2 (claims t) (set-blade-at t) set-blade.Post
-  grown c = c .before .before .before .before .before .before .before .before
+  grown c = c .before .before .before
 
   add-blades : set-blade-lts.Need-add-blades (claims t) (set-blade-at t) set-blade.Post
   add-blades c = omega (arith, more (grown c))
@@ -173,8 +153,8 @@ module _ (t : ℕ) where
   with-dims-requires c κs = tt
 
   -- the buffer has as many numbers as there are blades
-  enough : (c : set-blade-lts.After-blades2 (claims t) (set-blade-at t) set-blade.Post) → c .blades2 .result ≤ length (c .before .before .resize .last .1 .1 .1 .1 .1 .0)
-  enough c = omega (arith, c .blades2 .ensures, few (grown (c .before)), c .before .before .resize .kept .1 .1 .1 .1 .1 .0)
+  enough : (c : set-blade-lts.After-blades2 (claims t) (set-blade-at t) set-blade.Post) → c .blades2 .result ≤ length (c .before .before .resize .last .1 .1 .1 .0)
+  enough c = omega (arith, c .blades2 .ensures, few (grown (c .before)), c .before .before .resize .kept .1 .1 .1 .0)
 
   array-share-prefix-held : set-blade-lts.Need-array-share-prefix-held (claims t) (set-blade-at t) set-blade.Post
   array-share-prefix-held c = enough (c .before)
@@ -184,9 +164,10 @@ module _ (t : ℕ) where
 
   set-blade-requires : set-blade-lts.Need-set-blade-requires (claims t) (set-blade-at t) set-blade.Post
   set-blade-requires c κs =
-      let j = grown (c .before .before .before .before) in
-      let d : c .before .before .with-dims .result .dims ≡ s (i j) .args .self .dims + 1 = ap (λ x. x .dims) (c .before .before .with-dims .ensures) in
-      let h : 9 - c .before .before .with-dims .result .dims < t = omega (arith, d, more j, s (i j) .pre .0) in
+      let w = c .before .before in
+      let j = grown (w .before .before) in
+      let d : w .with-dims .result .dims ≡ s (i j) .args .self .dims + 1 = ap (λ x. x .dims) (w .with-dims .ensures) in
+      let h : 9 - w .with-dims .result .dims < t = omega (arith, d, more j, s (i j) .pre .0) in
       (h, tt)
 
   same-length-2 : set-blade-lts.Need-same-length-2 (claims t) (set-blade-at t) set-blade.Post
@@ -213,14 +194,11 @@ pub +set-blade-spec : {M : Type 1} → statement M
     (set-blade-refusal-requires t)
     (refused-requires t)
     (returns t)
-    (sorted-order-requires t)
     (blades-requires t)
     (put-blade-requires t)
     (done-requires t)
     (same-length t)
     (returns-2 t)
-    (add-sorted-order t)
-    (sorted-order-requires-2 t)
     (add-resize t)
     (slice-aggregate-resize t)
     (resize-requires t)

@@ -1,14 +1,13 @@
--- `masks::shape::Shape::unpack_vector` meets its contract: the coefficients of the masks of grade 1 are gathered. Assumes nothing.
+-- `masks::shape::Shape::unpack_vector` meets its contract: the masks of grade 1 stand from place 1 on. Assumes nothing.
 use mathlib.Core.Path.{sym, _∙_}
 use native.Mathlib.Omega.{arith}
 use borrow.Author.Needs.{needs}
-use lib.Dec.{lit≤}
 use lib.ListN.{length, take, drop}
 use Rattle.masks.specs.Order.{order}
 use Rattle.masks.specs.Shape.{coef}
 use Rattle.masks.specs.Unpack.{unpackVector}
-use Rattle.masks.proofs.OrderLaws.{built-masks, built-places}
 use Rattle.masks.proofs.OutcomeLaws.{Taken, taken, writes-refused, writes-done}
+use Rattle.masks.proofs.BuildLaws.{lt-blades}
 use Rattle.masks.proofs.UnpackLaws.{vector-read, vector-length, counts}
 use Rattle.masks.proofs.shape.Shape.unpack_vector.Statement.{statement}
 use Rattle.masks.proofs.shape.Shape.unpack_vector.Tie as tie
@@ -33,15 +32,10 @@ s c = c .before .before .before .before
 ok : (c : tie.Else1) → Taken (s c .args .self .dims) (s c .args .self .dims) (length (s c .args .a .now)) (length (s c .args .out .now)) (s c .args .self .dims)
 ok c = taken _ _ _ _ _ (sym (c .before .refusal-of .ensures) ∙ c .if1 .left)
 
-sorted-order-requires : tie.Need-sorted-order-requires
-sorted-order-requires c κs = ok c .small
-
-gather-requires : tie.Need-gather-requires
-gather-requires c κs =
-    let o = c .before .before .before .before in
-    let a = s (o .before) .args in
-    let t = ok (o .before) in
-    ((t .small, built-places (o .sorted-order .ensures), t .counted), (omega (arith, t .small), omega (arith, t .roomy)))
+copy-part-requires : tie.Need-copy-part-requires
+copy-part-requires c κs =
+    let t = ok (c .before) in
+    (omega (arith, t .counted, lt-blades (s (c .before) .args .self .dims)), omega (arith, t .roomy))
 
 same-length : tie.Need-same-length
 same-length c = search needs
@@ -49,23 +43,13 @@ same-length c = search needs
 returns-2 : tie.Need-returns-2
 unfolding unpackVector
 returns-2 c =
-    let o = c .before .before .before .before .before .before .before in
-    let e = o .before in
+    let e = c .before .before .before .before in
     let a = s e .args in
     let t = ok e in
     writes-done _ _ _ _ _ _ (e .before .refusal-of .ensures) (e .if1 .left) (counts (a .self .dims) (coef (a .self .dims) (a .a .now)) (take (a .self .dims) (drop 1 (order (a .self .dims)))) (sym (vector-length (a .self .dims))))
-    (vector-read 1024 (a .self .dims) (a .a .now) (lit≤ tt) (a .self .dims) (o .sorted-order .result .masks) (t .small) (built-masks (o .sorted-order .ensures)) (a .out .now) _
-    (c .before .before .gather .ensures))
+    (c .before .before .copy-part .ensures ∙ vector-read (a .self .dims) (a .a .now) (a .out .now) (t .counted) (t .roomy))
 
 pub unpack-vector-spec : {M : Type 1} → statement M
 unpack-vector-spec =
     tie.close
-    (tie.spec
-    cast-needed
-    refusal-of-requires
-    none-requires
-    returns
-    sorted-order-requires
-    gather-requires
-    same-length
-    returns-2)
+    (tie.spec cast-needed refusal-of-requires none-requires returns copy-part-requires same-length returns-2)
