@@ -25,7 +25,7 @@
  * nothing: no output, and nothing that a to_... points to.
  *
  * Who owns what. The caller owns every buffer. The library keeps no pointer after a call, allocates nothing and has no
- * state; it works on the caller's stack, of which 128 KiB are enough. It may be called from several threads at once, on
+ * state; it works on the caller's stack, of which 64 KiB are enough. It may be called from several threads at once, on
  * separate outputs.
  *
  * Pointers. The pointer of a slice may be null where its length is 0; no other may. Each must be aligned, and valid for
