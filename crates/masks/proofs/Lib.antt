@@ -1,6 +1,7 @@
 -- The laws that the proofs of `masks`, and of the crates above it, cite.
 pub mod BladeLaws
 pub mod BuildLaws
+pub mod EndsLaws
 pub mod FlavorLaws
 pub mod GradeParts
 pub mod ListLaws

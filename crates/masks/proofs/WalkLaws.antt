@@ -1,22 +1,19 @@
--- A walk through the order of n dimensions from both ends, which counts the masks that d of them have; and an output that is written from both ends.
--- Assumes nothing.
-use mathlib.Core.Path.{_≡_, refl, sym, ap, _∙_}
+-- A walk through the order of n dimensions from both ends, which counts the masks that d of them have. Assumes nothing.
+use mathlib.Core.Path.{_≡_, sym, ap, _∙_}
 use mathlib.Core.Logic.{⊎-elim}
 use mathlib.Core.List.{List, map}
 use Prim.Native.Nat.{ℕ, zero, suc, _+_, _-_, _%_, _^_, _≤_, _<_}
 use native.Mathlib.Nat.{pow-suc, sub-zero, not-suc-le-zero}
 use native.Mathlib.Numerals.{add-one}
-use native.Mathlib.Decide.{ℕ-discrete}
 use native.Mathlib.Omega.{arith}
 use lib.Ieee.{Float, nan}
-use lib.ListN.{length, getD, set, drop, length-set, List·getD-append}
+use lib.ListN.{getD}
 use lib.Pow.{pow-pos}
-use lib.Seq.{getD-set-same, getD-set-other, getD-drop, ext-getD}
 use Rattle.masks.specs.Order.{order, place}
-use Rattle.masks.specs.Outcome.{laid, nought}
+use Rattle.masks.specs.Outcome.{nought}
 use Rattle.masks.specs.Shape.{coef}
 use Rattle.masks.specs.inner.Walk.{backwards, nextBackwards}
-use Rattle.masks.proofs.ListLaws.{split, getD-map, getD-past, laid-length}
+use Rattle.masks.proofs.ListLaws.{split, getD-map}
 use Rattle.masks.proofs.OrderLaws.{length-order, order-first, order-at, blades-le}
 use Rattle.masks.proofs.OrderMirror.{order-mirror, below-last}
 use Rattle.masks.proofs.OrderKept.{keptBefore, kept-first, kept-last, Kept, kept-here, Dropped, dropped-here}
@@ -165,71 +162,3 @@ module _ (d n p : ℕ) (a : List Float) (h : p < 2 ^ n) where
       sym
       (getD-map (coef n a) (order d) (keptBefore d n p) 0 nan (omega (arith, length-order d, t .room))
       ∙ ap (coef n a) (t .there) ∙ coef-inside n (getD (order n) p 0) a (o .low) ∙ ap (λ (q : ℕ). getD a q nan) (o .back))
-
--- ---- an output that is written from both ends
-
--- the numbers xs are there before place i and from place e on, and what is behind them is as it was
-pub record Filled (xs before out : List Float) (i e : ℕ) : Type 0 where
-  pub long : length out ≡ length before
-  pub fits : length xs ≤ length before
-  pub front : (j : ℕ) → j < i → getD out j nan ≡ getD xs j nan
-  pub back : (j : ℕ) → e ≤ j → j < length xs → getD out j nan ≡ getD xs j nan
-  pub past : (j : ℕ) → length xs ≤ j → getD out j nan ≡ getD before j nan
-
-pub filled-none : (xs out : List Float) (e : ℕ) → length xs ≤ length out → e ≡ length xs → Filled xs out out 0 e
-filled-none xs out e h q = record {
-  long = refl;
-  fits = h;
-  front = λ j l. absurd (omega arith);
-  back = λ j l r. absurd (omega arith);
-  past = λ j l. refl;
-}
-
--- a number of xs written at its place
-module _ (xs before out : List Float) (i e p : ℕ) (y : Float) (f : Filled xs before out i e) (h : p < length xs) (q : y ≡ getD xs p nan) where
-  right : (j : ℕ) → ((j ≡ p → ⊥) → getD out j nan ≡ getD xs j nan) → getD (set out p y) j nan ≡ getD xs j nan
-  right j r =
-      elim (ℕ-discrete j p) [
-        | yes s ↦ rw s (getD-set-same out p y nan (omega (arith, f .long, f .fits)) ∙ q)
-        | no s ↦ getD-set-other out p j y nan s ∙ r s
-      ]
-
-  written : (i′ e′ : ℕ) → ((j : ℕ) → j < i′ → (j ≡ p → ⊥) → j < i) → ((j : ℕ) → e′ ≤ j → (j ≡ p → ⊥) → e ≤ j) → Filled xs before (set out p y) i′ e′
-  written i′ e′ a b = record {
-    long = length-set out p y ∙ f .long;
-    fits = f .fits;
-    front = λ j l. right j (λ s. f .front j (a j l s));
-    back = λ j l r. right j (λ s. f .back j (b j l s) r);
-    past = λ j l. getD-set-other out p j y nan (λ s. omega arith) ∙ f .past j l;
-  }
-
-  pub filled-front : p ≡ i → Filled xs before (set out p y) (i + 1) e
-  filled-front s =
-      written (i + 1) e (λ j l r. ⊎-elim (λ (t : j < i). t) (λ (t : i ≤ j). absurd (r (omega arith))) (split j i)) (λ j l r. l)
-
-  pub filled-back : p + 1 ≡ e → Filled xs before (set out p y) i p
-  filled-back s =
-      written i p (λ j l r. l) (λ j l r. ⊎-elim (λ (t : p < j). omega arith) (λ (t : j ≤ p). absurd (r (omega arith))) (split p j))
-
-pub filled-from : {xs before out : List Float} {i e e′ : ℕ} → e ≡ e′ → Filled xs before out i e → Filled xs before out i e′
-filled-from q f = rw (← q) f
-
--- all is written where the two ends meet
-pub filled-all : (xs before out : List Float) (i e : ℕ) → e ≤ i → Filled xs before out i e → out ≡ laid xs before
-filled-all xs before out i e h f =
-    ext-getD nan out (laid xs before) (f .long ∙ sym (laid-length xs before (f .fits)))
-    (λ j l.
-    ⊎-elim
-    (λ (r : j < length xs).
-    ⊎-elim (λ (s : j < i). f .front j s) (λ (s : i ≤ j). f .back j (omega arith) r) (split j i)
-    ∙ sym (List·getD-append xs (drop (length xs) before) nan j r))
-    (λ (r : length xs ≤ j).
-    let m : ℕ = j - length xs in
-    let s : length xs + m ≡ j = omega arith in
-    f .past j r
-    ∙ sym
-    (ap (λ (k : ℕ). getD (laid xs before) k nan) (sym s)
-    ∙ getD-past xs (drop (length xs) before) (length xs) m nan refl
-    ∙ getD-drop (length xs) before m nan
-    ∙ ap (λ (k : ℕ). getD before k nan) s))
-    (split j (length xs)))

@@ -11,15 +11,16 @@ use lib.ListN.{length, getD, set}
 use lib.Pow.{pow-pos}
 use Rattle.masks.specs.Order.{order}
 use Rattle.masks.specs.Shape.{coef}
+use Rattle.masks.proofs.EndsLaws.{Filled, filled-none, filled-front, filled-back, filled-from, filled-all}
 use Rattle.masks.proofs.OrderKept.{keptBefore}
 use Rattle.masks.proofs.ShapeLaws.{ordered-length}
-use Rattle.masks.proofs.WalkLaws.{Walking, walking-first, walking-small, low-pos, walking-done, not-last, front-kept, front-dropped, back-kept, back-dropped, back-more, back-same, walking-next, grown-kept, grown-dropped, Filled, filled-none, filled-front, filled-back, filled-from, filled-all}
+use Rattle.masks.proofs.WalkLaws.{Walking, walking-first, walking-small, low-pos, walking-done, not-last, front-kept, front-dropped, back-kept, back-dropped, back-more, back-same, walking-next, grown-kept, grown-dropped}
 use Rattle.masks.proofs.walk.grow.Statement.{statement}
 use Rattle.masks.proofs.walk.grow.Tie as tie
 
 abbrev Inv-loop : tie.InvT-loop
 Inv-loop dims n a out₀ last low x₀ i₀ end₀ k₀ out x i end k =
-    Walking dims n last low k x i end × Filled (map (coef dims a) (order n)) out₀ out k (2 ^ n - k)
+    Walking dims n last low k x i end × Filled nan (map (coef dims a) (order n)) out₀ out k (2 ^ n - k)
 
 abbrev μ-loop : tie.MeasureT-loop
 μ-loop dims n a out₀ last low x₀ i₀ end₀ k₀ out x i end k = 2 ^ n - k
@@ -95,10 +96,10 @@ module _ (c : tie.At-loop Inv-loop μ-loop) where
 
   -- what holds once a number is written from the front, and then one from the back
   abbrev FrontDone : List Float → ℕ → Type 0
-  FrontDone out i = Filled xs (s .args .out .now) out (k + 1) (2 ^ n - k) × (i ≡ keptBefore d n (suc k))
+  FrontDone out i = Filled nan xs (s .args .out .now) out (k + 1) (2 ^ n - k) × (i ≡ keptBefore d n (suc k))
 
   abbrev BackDone : List Float → ℕ → Type 0
-  BackDone out e = Filled xs (s .args .out .now) out (k + 1) j × (e ≡ keptBefore d n j)
+  BackDone out e = Filled nan xs (s .args .out .now) out (k + 1) j × (e ≡ keptBefore d n j)
 
   -- before the middle
   module _ (h : k + k < last) where
@@ -106,10 +107,10 @@ module _ (c : tie.At-loop Inv-loop μ-loop) where
     fits = sym (w .whole)
 
     -- one number written from the front, and one from the back
-    put-front : (y : Float) → y ≡ getD xs k nan → Filled xs (s .args .out .now) (set (c .loop .out) k y) (k + 1) (2 ^ n - k)
+    put-front : (y : Float) → y ≡ getD xs k nan → Filled nan xs (s .args .out .now) (set (c .loop .out) k y) (k + 1) (2 ^ n - k)
     put-front y q = filled-front xs _ (c .loop .out) k (2 ^ n - k) k y (c .loop .inv .1) (omega (arith, long)) q refl
 
-    put-back : (out : List Float) (y : Float) → Filled xs (s .args .out .now) out (k + 1) (2 ^ n - k) → y ≡ getD xs j nan → Filled xs (s .args .out .now) (set out j y) (k + 1) j
+    put-back : (out : List Float) (y : Float) → Filled nan xs (s .args .out .now) out (k + 1) (2 ^ n - k) → y ≡ getD xs j nan → Filled nan xs (s .args .out .now) (set out j y) (k + 1) j
     put-back out y f q = filled-back xs _ out (k + 1) (2 ^ n - k) j y f (omega (arith, long)) q (omega arith)
 
 mul-loop : tie.Need-mul-loop Inv-loop μ-loop

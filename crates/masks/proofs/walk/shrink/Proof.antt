@@ -11,15 +11,16 @@ use lib.ListN.{length, getD}
 use lib.Pow.{pow-pos}
 use Rattle.masks.specs.Order.{order}
 use Rattle.masks.specs.Shape.{coef}
+use Rattle.masks.proofs.EndsLaws.{Filled, filled-none, filled-front, filled-back, filled-all}
 use Rattle.masks.proofs.OrderKept.{keptBefore}
 use Rattle.masks.proofs.ShapeLaws.{ordered-length}
-use Rattle.masks.proofs.WalkLaws.{Walking, walking-first, walking-small, low-pos, walking-met, not-last, front-kept, front-dropped, back-kept, back-dropped, back-more, back-same, walking-next, shrunk-kept, Filled, filled-none, filled-front, filled-back, filled-all}
+use Rattle.masks.proofs.WalkLaws.{Walking, walking-first, walking-small, low-pos, walking-met, not-last, front-kept, front-dropped, back-kept, back-dropped, back-more, back-same, walking-next, shrunk-kept}
 use Rattle.masks.proofs.walk.shrink.Statement.{statement}
 use Rattle.masks.proofs.walk.shrink.Tie as tie
 
 abbrev Inv-loop : tie.InvT-loop
 Inv-loop n dims a out₀ last low x₀ at₀ end₀ k₀ out x at end k =
-    Walking dims n last low k x at end × Filled (map (coef n a) (order dims)) out₀ out at end
+    Walking dims n last low k x at end × Filled nan (map (coef n a) (order dims)) out₀ out at end
 
 abbrev μ-loop : tie.MeasureT-loop
 μ-loop n dims a out₀ last low x₀ at₀ end₀ k₀ out x at end k = 2 ^ n - k
@@ -96,10 +97,10 @@ module _ (c : tie.At-loop Inv-loop μ-loop) where
 
   -- what holds once the numbers at k and at its complement are met
   abbrev FrontDone : List Float → ℕ → Type 0
-  FrontDone out i = Filled xs (s .args .out .now) out i (c .loop .end) × (i ≡ keptBefore d n (suc k))
+  FrontDone out i = Filled nan xs (s .args .out .now) out i (c .loop .end) × (i ≡ keptBefore d n (suc k))
 
   abbrev BackDone : List Float → ℕ → ℕ → Type 0
-  BackDone out i e = Filled xs (s .args .out .now) out i e × (e ≡ keptBefore d n j)
+  BackDone out i e = Filled nan xs (s .args .out .now) out i e × (e ≡ keptBefore d n j)
 
 mul-loop : tie.Need-mul-loop Inv-loop μ-loop
 mul-loop c = omega (arith, small c)
