@@ -17,9 +17,9 @@ use Rattle.masks.specs.declared.flavor.Flavor.{Flavor}
 use Rattle.masks.specs.declared.flavor.Flavor.the-variants.{Vanilla}
 use Rattle.masks.specs.declared.build.Packing.{Packing}
 use Rattle.masks.specs.declared.build.Packing.the-variants.{Full, Half, Grade, Nothing}
-use Rattle.masks.specs.Order.{grade, gradesBelow, order, size, start}
+use Rattle.masks.specs.Order.{grade, gradesBelow, order, size, start, builtTests, GivesOrder}
 use Rattle.masks.specs.Outcome.{refusal, tooMany, noRoom, laid, value, refusedValue, shapeOf, nought}
-use Rattle.masks.specs.Build.{padded, atGrade, builtTests, oneGrade, n1Tests, n1Blades, firstGrade, sideStart, sideEnd, packing, unpacked, ofParity, spread, packed, packedTests, bladesOfSide}
+use Rattle.masks.specs.Build.{padded, atGrade, oneGrade, n1Tests, n1Blades, firstGrade, sideStart, sideEnd, packing, unpacked, ofParity, spread, packed, packedTests, bladesOfSide}
 use Rattle.masks.specs.Unpack.{choose}
 use Rattle.masks.proofs.ListLaws.{getD-past, sets-laid, laid-over}
 use Rattle.masks.proofs.OrderLaws.{length-grade, length-order, grade-at, size-zero, start-all, size-above, part-fits}
@@ -351,6 +351,12 @@ built-taken d room e =
     let p = past (tooMany d) _ (λ q. omega arith) e in
     let q = past (noRoom room (2 ^ d)) _ (λ q. omega arith) (p .1) in
     (ltb-false _ _ (p .0), ltb-false _ _ (q .0))
+
+-- where the call is not refused, the order's masks are written
+pub put-order-done : {d r : ℕ} {before after : List ℕ} → GivesOrder d r before after → d ≤ 9 → 2 ^ d ≤ length before → (r ≡ 0) × (after ≡ laid (order d) before)
+put-order-done {d = d} {r = r} {before = before} g h l =
+    let e = g .answered ∙ built-done d (length before) h l in
+    (e, g .left ∙ ap (λ (xs : List ℕ). laid xs before) (unless-done (λ _. []) r r (order d) refl e))
 
 -- the numbers of the grade below the last are at least 2
 module _ (n room : ℕ) where

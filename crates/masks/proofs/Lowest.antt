@@ -9,10 +9,10 @@ use lib.ListN.{length, getD}
 use Rattle.masks.specs.declared.build.Packing.{Packing}
 use Rattle.masks.specs.declared.flavor.Flavor.{Flavor}
 use Rattle.masks.specs.Outcome.{Test, refusal, valueTests, resultTests, pairTests}
-use Rattle.masks.specs.Order.{orderTests}
+use Rattle.masks.specs.Order.{orderTests, builtTests}
 use Rattle.masks.specs.Shape.{bothTests}
 use Rattle.masks.specs.Blade.{setBladeTests, gradeTests}
-use Rattle.masks.specs.Build.{builtTests, n1Tests, packedTests}
+use Rattle.masks.specs.Build.{n1Tests, packedTests}
 use Rattle.masks.specs.Text.{readTests, writeTests}
 use Rattle.masks.proofs.ListLaws.{both}
 

@@ -9,6 +9,7 @@ use borrow.Author.Tests.{le-ltb, ltb-false, eq-eqb, eqb-true, not-false}
 use Rattle.masks.specs.declared.outcome.Answer.{Answer}
 use Rattle.masks.specs.declared.outcome.Answers.{Answers}
 use Rattle.masks.specs.declared.outcome.Count.{Count}
+use Rattle.masks.specs.Order.{order, GivesOrder}
 use Rattle.masks.specs.Outcome.{Test, refusal, tooMany, wrongCount, noRoom, resultTests, pairTests, unless, laid, Outcome, refusedValue, answerOf, Gives, Pair, refusedPair, answersOf, GivesBoth, Written, refusedList, countOf, Writes}
 
 -- ---- lists of tests
@@ -217,3 +218,8 @@ gives-both-one g h = (g .answered ∙ sym (h .answered), g .left ∙ sym (h .lef
 
 pub writes-one : {A : Type 0} {o : Written A} {r r′ : Count} {before after after′ : List A} → Writes o r before after → Writes o r′ before after′ → (r ≡ r′) × (after ≡ after′)
 writes-one g h = (g .counted ∙ sym (h .counted), g .left ∙ sym (h .left))
+
+pub gives-order-one : {d r r′ : ℕ} {before after after′ : List ℕ} → GivesOrder d r before after → GivesOrder d r′ before after′ → (r ≡ r′) × (after ≡ after′)
+gives-order-one {d = d} {before = before} g h =
+    let e = g .answered ∙ sym (h .answered) in
+    (e, g .left ∙ ap (λ (k : ℕ). laid (unless (λ _. []) k (order d)) before) e ∙ sym (h .left))

@@ -10,7 +10,7 @@ use Rattle.masks.specs.declared.flavor.Flavor.{Flavor}
 use Rattle.masks.specs.declared.flavor.Flavor.the-variants.{Vanilla}
 use Rattle.masks.specs.declared.build.Packing.{Packing}
 use Rattle.masks.specs.declared.build.Packing.the-variants.{Full, Half, Grade, Nothing}
-use Rattle.masks.specs.Order.{order, size, start}
+use Rattle.masks.specs.Order.{order, size, start, builtTests}
 use Rattle.masks.specs.Outcome.{Test, Outcome, refusal, tooMany, noRoom, unless, value, refusedValue, shapeOf, nought}
 use Rattle.masks.specs.Flavor.{addedDims}
 
@@ -21,10 +21,6 @@ padded first v n = replicate first nought ++ v ++ replicate (n - (first + length
 -- `atGrade d g v` has v at grade g, and +0 in the others.
 unfoldable pub atGrade : ℕ → ℕ → List Float → List Float
 atGrade d g v = padded (start d g) v (2 ^ d)
-
--- The tests of building a value of d dimensions in an output of `room` numbers.
-abbrev pub builtTests : ℕ → ℕ → List Test
-builtTests d room = tooMany d ∷ noRoom room (2 ^ d) ∷ []
 
 -- `oneGrade n g v` is a value of n dimensions that has v at grade g.
 unfoldable pub oneGrade : ℕ → ℕ → List Float → Flavor → ℕ → Outcome

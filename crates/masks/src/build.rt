@@ -19,11 +19,11 @@ ghost use mathlib.Core.Path.{_≡_};
 ghost use Prim.Native.Nat.{ℕ, _+_, _-_, _*_, _≤_, _<_, _^_};
 ghost use lib.Ieee.{nan};
 ghost use lib.ListN.{length, take, getD};
-ghost use Rattle.masks.specs.Order.{start, order};
+ghost use Rattle.masks.specs.Order.{start, order, builtTests};
 ghost use Rattle.masks.specs.Outcome.{Gives, refusal, laid};
 ghost use Rattle.masks.specs.Flavor.{addedDims};
 ghost use Rattle.masks.specs.Unpack.{choose};
-ghost use Rattle.masks.specs.Build.{padded, atGrade, builtTests, oneGrade, vector, n1Blades, scalar, pseudoscalar, firstGrade, packing, spread, bladesOfSide};
+ghost use Rattle.masks.specs.Build.{padded, atGrade, oneGrade, vector, n1Blades, scalar, pseudoscalar, firstGrade, packing, spread, bladesOfSide};
 
 // How some numbers fill a value.
 pub enum Packing {
