@@ -1,18 +1,15 @@
 -- Demand 3: three factors group either way, and a product reverses, with equal numbers. Assumes nothing.
 use mathlib.Core.Path.{_≡_, refl, sym, ap, _∙_, subst}
-use mathlib.Core.Bool.{cond}
 use mathlib.Core.List.{List}
-use Prim.Native.Nat.{ℕ, suc, _+_, _-_, _*_, _/_, _%_, _^_, _≤_, _<_}
+use Prim.Native.Nat.{ℕ, _+_, _-_, _*_, _^_, _≤_, _<_}
 use native.Mathlib.Nat.{add-assoc}
 use native.Mathlib.Omega.{arith}
-use lib.Dec.{T}
-use lib.Ieee.{Float, nan, inf, fin, Format, binary64, up, down, round, fits}
-use lib.Ieee.Fits.{round-fits, cond-fits}
+use lib.Ieee.{Float, nan, binary64}
 use lib.IntN.{pos, _*ℤ_}
 use lib.ListN.{getD}
 use lib.Pow.{pow-add}
-use Rattle.rounding.specs.Snap.{tiny, snapBy, snap}
 use Rattle.rounding.proofs.TermsLaws.{run-fits}
+use Rattle.rounding.proofs.SnapLaws.{snap-fits}
 use Rattle.masks.specs.declared.shape.Shape.{Shape}
 use Rattle.product.specs.declared.mode.Mode.the-variants.{All}
 use Rattle.product.specs.Pairwise.{maskAt}
@@ -28,17 +25,6 @@ use Rattle.product.proofs.AccuracyExact.{exact-sum-whole}
 use Rattle.product.proofs.WholeLaws.{groups, reverses}
 use Rattle.product.proofs.AccuracyUnits.{value-finer, exactly-finer, whole-ext, whole-scaled, equal-numbers}
 use Rattle.product.proofs.ReverseLaws.{reversed-holds, reversed-multiples, reversed-value, reverse-ext, reversed-case}
-
--- `snap` gives what the format holds.
-snap-fits : (f : Format) (x : Float) → T (fits f x) → T (fits f (snap f x))
-unfolding snap snapBy
-snap-fits f nan t = t
-snap-fits f (inf s) t = t
-snap-fits f (fin s m e) t =
-    let w = m * up e / down e in
-    let r = m * up e % down e in
-    cond-fits f (tiny r (down e)) (round f s w 1) (cond (tiny (down e - r) (down e)) (round f s (suc w) 1) (fin s m e)) (round-fits f s w 1)
-    (cond-fits f (tiny (down e - r) (down e)) (round f s (suc w) 1) (fin s m e) (round-fits f s (suc w) 1) t)
 
 module _ (s : Shape) (room : ℕ) (t : Fitting s room) where
   -- A product is a value again.

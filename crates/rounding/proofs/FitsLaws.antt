@@ -1,7 +1,7 @@
 -- The values that a format holds: they round to themselves, are whole numbers of its smallest, and are told apart by sign and size. Assumes nothing.
 use mathlib.Core.Path.{_≡_, refl, sym, ap, _∙_, subst}
 use Prim.Native.Nat.{ℕ, zero, suc, _+_, _-_, _*_, _%_, _^_, _≤_, _<_}
-use native.Mathlib.Nat.{le-of-lt, lt-irrefl, mul-comm, mul-assoc, mul-left-comm, mul-right-comm, mul-one, one-mul, zero-mul, mul-pos, mul-le-mul-left, mul-lt-mul-of-pos-right, lt-of-mul-lt-mul-right, eq-of-mul-eq-mul-right, pow-suc, pow-succ', zero-lt-suc}
+use native.Mathlib.Nat.{le-of-lt, lt-irrefl, mul-comm, mul-assoc, mul-left-comm, mul-right-comm, mul-one, one-mul, zero-mul, mul-pos, mul-le-mul-left, mul-le-mul-right, mul-lt-mul-of-pos-right, lt-of-mul-lt-mul-right, eq-of-mul-eq-mul-right, pow-suc, pow-succ', zero-lt-suc}
 use native.Mathlib.Omega.{arith}
 use mathlib.Core.Bool.{Bool, true, false, not, _&&_}
 use lib.IntN.{ℤ, pos, negsuc}
@@ -39,6 +39,14 @@ fits-prec f s (suc m) e t = fits-parts f s m e t .1
 pub fits-top : (f : Format) (s : Bool) (m : ℕ) (e : ℤ) → T (fits f (fin s m e)) → m * up e < 2 ^ suc (emax f) * down e
 fits-top f s zero e t = subst (λ (x : ℕ). x < 2 ^ suc (emax f) * down e) (sym (zero-mul (up e))) (mul-pos (pow-pos (suc (emax f))) (down-pos e))
 fits-top f s (suc m) e t = fits-parts f s m e t .3
+
+pub fits-down : (f : Format) (s : Bool) (m : ℕ) (e : ℤ) → T (fits f (fin s m e)) → down e ≤ 2 ^ low f
+unfolding fits
+fits-down f s zero e t = one (up e) (down e) (2 ^ low f) (up-pos e) (pow-pos (low f)) (eqb→eq (up e * down e) 1 t)
+  where
+    one : (a b c : ℕ) → 0 < a → 0 < c → a * b ≡ 1 → b ≤ c
+    one a b c A C h = let x : 1 * b ≤ a * b = mul-le-mul-right b A in omega arith
+fits-down f s (suc m) e t = fits-parts f s m e t .2
 
 -- ---- A value that fits: its units round to themselves, and are below the cap.
 units-rnd : (p u m : ℕ) (e : ℤ) (n : ℕ) → 0 < p → m < 2 ^ p → m * up e * 2 ^ u ≡ n * down e → rnd p n ≡ n

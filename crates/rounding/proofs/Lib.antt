@@ -7,5 +7,6 @@ pub mod OperationLaws
 pub mod TermsLaws
 pub mod SizedLaws
 pub mod SnapLaws
-pub mod SnapBitsLaws
+pub mod NearestWhole
+pub mod SnapNearest
 pub mod DemandLaws

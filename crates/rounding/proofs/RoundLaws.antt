@@ -51,6 +51,21 @@ nearest-half q Ordering·gt r b h k = omega arith
 pub closest-half : (a b : ℕ) → 0 < b → Half a b (closest a b)
 closest-half a b B = subst (λ (x : ℕ). Half x b (closest a b)) (div-add-mod' a b) (nearest-half (a / b) (compare (a % b * 2) b) (a % b) b (mod-lt a B) (compares (a % b * 2) b))
 
+-- How far two numbers are apart.
+abbrev pub apart : ℕ → ℕ → ℕ
+apart a b = (a - b) + (b - a)
+
+-- Where it is a half away, it is even.
+nearest-even : (q : ℕ) (o : Ordering) (r b : ℕ) → r < b → Compares o (r * 2) b → 2 * apart (q * b + r) (nearest q o * b) ≡ b → nearest q o % 2 ≡ 0
+nearest-even q Ordering·lt r b h k e = omega arith
+nearest-even q Ordering·eq r b h k e = omega arith
+nearest-even q Ordering·gt r b h k e = omega arith
+
+pub closest-even : (a b : ℕ) → 0 < b → 2 * apart a (closest a b * b) ≡ b → closest a b % 2 ≡ 0
+closest-even a b B e =
+    nearest-even (a / b) (compare (a % b * 2) b) (a % b) b (mod-lt a B) (compares (a % b * 2) b)
+    (subst (λ (x : ℕ). 2 * apart x (closest a b * b) ≡ b) (sym (div-add-mod' a b)) e)
+
 -- ---- `rnd p` moves n by n / 2 ^ p at most.
 half-of-one : (n c Q : ℕ) → Half n 1 c → Near Q n (c * 1)
 half-of-one n c Q h = let e : c * 1 ≡ n = omega arith in (rw e (omega arith), rw e (omega arith))
@@ -113,7 +128,7 @@ rnd-exact p q j P h = elim (eq-or-lt-of-le h) [ inl e ↦ subst (λ (x : ℕ). r
 pub rnd-small : (p n : ℕ) → 0 < p → n ≤ 2 ^ p → rnd p n ≡ n
 rnd-small p n P h = subst (λ (x : ℕ). rnd p x ≡ x) (mul-one n) (rnd-exact p n 0 P h)
 
-closest-le : (a b B : ℕ) → 0 < b → a < B * b → closest a b ≤ B
+pub closest-le : (a b B : ℕ) → 0 < b → a < B * b → closest a b ≤ B
 closest-le a b B P h =
     let x = closest-half a b P in
     let l : 2 * closest a b < 2 * B + 1 = lt-of-mul-lt-mul-right b (omega arith) in
@@ -129,7 +144,7 @@ rnd-idem p n P =
     cover z = omega arith
 
 -- ---- A power of two passes through `rnd`.
-size-above : (n j : ℕ) → 2 ^ j ≤ n → j < size n
+pub size-above : (n j : ℕ) → 2 ^ j ≤ n → j < size n
 size-above n j h = lt-of-not-le (λ (g : size n ≤ j). not-le-of-lt (lt-of-lt-of-le (size-lt n) (pow-mono g)) h)
 
 size-shift : (n t : ℕ) → 0 < size n → size (n * 2 ^ t) ≡ size n + t

@@ -9,13 +9,13 @@ use lib.IntN.{ℤ, pos, negsuc}
 use lib.Dec.{T, ltb→lt, lt→ltb, lit≤}
 use lib.Pow.{pow-add, pow-pos}
 use lib.Ieee.{Float, nan, inf, fin, Format, prec, up, down, round, fits}
-use lib.Ieee.Fits.{down-pos, round-fits}
+use lib.Ieee.Fits.{down-pos, round-fits, cond-fits}
 use lib.Ieee.Nearest.{div-same}
 use lib.Ieee.Exact.{HasValue}
 use Rattle.rounding.specs.Snap.{tinyNum, tinyExp, tiny, snapBy, snap, NearWhole, Snapped}
 use Rattle.rounding.proofs.RoundLaws.{rnd-exact, rnd-small}
 use Rattle.rounding.proofs.ValueLaws.{rescale}
-use Rattle.rounding.proofs.FitsLaws.{prec-pos, fits-prec, fits-rnd, fits-cap, unique}
+use Rattle.rounding.proofs.FitsLaws.{prec-pos, fits-prec, fits-cap}
 use Rattle.rounding.proofs.OperationLaws.{round-whole, under-cap, sub-mul}
 
 -- ---- A fraction below 1e-14 is below 2 ^ -46.
@@ -91,6 +91,17 @@ snap-law f (fin s' m e) s n c C t v = go (tiny r d) (tiny (d - r) d) (tiny-lt r 
     go false true h k = inr (moved (suc w) (ceiling-value f s' m e t (k tt)) (near-ceiling (2 ^ 46) a d w r (div-add-mod' a d) (mod-lt a (down-pos e)) (k tt)))
     go false false h k = inl refl
 
+-- It gives what the format holds.
+pub snap-fits : (f : Format) (x : Float) → T (fits f x) → T (fits f (snap f x))
+unfolding snap snapBy
+snap-fits f nan t = t
+snap-fits f (inf s) t = t
+snap-fits f (fin s m e) t =
+    let w = m * up e / down e in
+    let r = m * up e % down e in
+    cond-fits f (tiny r (down e)) (round f s w 1) (cond (tiny (down e - r) (down e)) (round f s (suc w) 1) (fin s m e)) (round-fits f s w 1)
+    (cond-fits f (tiny (down e - r) (down e)) (round f s (suc w) 1) (fin s m e) (round-fits f s (suc w) 1) t)
+
 -- ---- In units of 2 ^ -u.
 -- A whole number of units, for one that is W as a number.
 in-units : (u : ℕ) (x : Float) (s : Bool) (W : ℕ) → HasValue x s W 1 → HasValue x s (W * 2 ^ u) (2 ^ u)
@@ -159,7 +170,7 @@ rest-same a d a' d' w p q e =
 less-same : (r d r' d' : ℕ) → r * d' ≡ r' * d → (d - r) * d' ≡ (d' - r') * d
 less-same r d r' d' e = sub-mul d r d' ∙ ap₂ (λ (x y : ℕ). x - y) (mul-comm d d') e ∙ sym (sub-mul d' r' d)
 
-pub snapBy-same : (f : Format) (s : Bool) (a d a' d' : ℕ) (x : Float) → 0 < d → 0 < d' → a * d' ≡ a' * d → snapBy f s a d x ≡ snapBy f s a' d' x
+snapBy-same : (f : Format) (s : Bool) (a d a' d' : ℕ) (x : Float) → 0 < d → 0 < d' → a * d' ≡ a' * d → snapBy f s a d x ≡ snapBy f s a' d' x
 unfolding snapBy
 snapBy-same f s a d a' d' x D D' e =
     let w : a / d ≡ a' / d' = div-same a d a' d' D D' e in
@@ -175,14 +186,3 @@ snap-by f (inf t) s n c C v = absurd v
 snap-by f (fin t m e) s n c C v =
     snapBy-same f t (m * up e) (down e) n c (fin t m e) (down-pos e) C (v .1)
     ∙ ap (λ (b : Bool). snapBy f b n c (fin t m e)) (v .0)
-
--- A whole number stays as it is.
-pub snap-whole : (f : Format) (x : Float) (s : Bool) (n : ℕ) → T (fits f x) → HasValue x s n 1 → snap f x ≡ x
-unfolding snapBy
-snap-whole f x s n t v =
-    snap-by f x s n 1 (pow-pos 0) v
-    ∙ ap₂ (λ (w z : ℕ). cond (tiny z 1) (round f s w 1) (cond (tiny (1 - z) 1) (round f s (suc w) 1) x)) (div-one n) (mod-one n)
-    ∙ unique f (round f s n 1) x s n 1 (pow-pos 0) (round-fits f s n 1) t (round-whole f s n (fits-rnd f 0 x s n t v) (fits-cap f 0 x s n t v)) v
-  where
-    mod-one : (n : ℕ) → n % 1 ≡ 0
-    mod-one n = omega arith

@@ -47,18 +47,18 @@ whole-if u s m e h =
     whole-by u s m e (m * up e * 2 ^ u / down e)
     (sym (div-add-mod' (m * up e * 2 ^ u) (down e)) ∙ ap (λ (x : ℕ). m * up e * 2 ^ u / down e * down e + x) h ∙ add-zero (m * up e * 2 ^ u / down e * down e))
 
+pub pow-le-back : (a b : ℕ) → 2 ^ a ≤ 2 ^ b → a ≤ b
+pow-le-back a b h = from (lt-of-not-le (λ (g : suc b ≤ a). not-le-of-lt (pow-lt g) h))
+  where
+    from : a < suc b → a ≤ b
+    from l = omega arith
+
 -- By an exponent that is not below -u.
 pub whole-exp : (u : ℕ) (s : Bool) (m : ℕ) (e : ℤ) → down e ≤ 2 ^ u → Whole u (fin s m e)
 whole-exp u s m (pos k) h = whole-by u s m (pos k) (m * 2 ^ k * 2 ^ u) (sym (mul-one (m * 2 ^ k * 2 ^ u)))
 whole-exp u s m (negsuc k) h =
     let l : suc k ≤ u = pow-le-back (suc k) u h in
     whole-by u s m (negsuc k) (m * 2 ^ (u - suc k)) (ap (λ (x : ℕ). x * 2 ^ u) (mul-one m) ∙ split-pow m u (suc k) l)
-  where
-    pow-le-back : (a b : ℕ) → 2 ^ a ≤ 2 ^ b → a ≤ b
-    pow-le-back a b h = from (lt-of-not-le (λ (g : suc b ≤ a). not-le-of-lt (pow-lt g) h))
-      where
-        from : a < suc b → a ≤ b
-        from l = omega arith
 
 pub zero-whole : (u : ℕ) (s : Bool) (e : ℤ) → Whole u (fin s zero e)
 zero-whole u s e = whole-by u s zero e 0 (ap (λ (x : ℕ). x * 2 ^ u) (zero-mul (up e)) ∙ zero-mul (2 ^ u) ∙ sym (zero-mul (down e)))

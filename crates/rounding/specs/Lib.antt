@@ -5,4 +5,3 @@ pub mod Value
 pub mod Terms
 pub mod Sized
 pub mod Snap
-pub mod inner
