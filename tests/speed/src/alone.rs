@@ -1,44 +1,44 @@
 //! The calls that the Rust has not in a form that could be compared.
-use crate::measure::{self, INPUTS, Timed};
+use crate::measure::{self, Timed};
 use crate::sys;
 use crate::table::{Lone, Row};
 use crate::values::{Lent, lists, shape};
 use std::hint::black_box;
 use uiua_parser::Flavor::{Projective, Vanilla};
 
-/// Times a call, after it was done for every input.
-fn timed(ours: impl Fn(usize, &mut Lent) -> u8) -> Timed {
+/// Times a call in d dimensions, after it was done for every input.
+pub fn timed(d: u8, ours: impl Fn(usize, &mut Lent) -> u8) -> Timed {
     let mut to = Lent::new();
-    if (0..INPUTS).any(|i| ours(i, &mut to) != 0) {
+    if (0..measure::inputs(d)).any(|i| ours(i, &mut to) != 0) {
         return Err("the call is refused");
     }
-    Ok(measure::alone(|i| {
+    Ok(Some(measure::alone(d, |i| {
         black_box(ours(black_box(i), &mut to));
         black_box(&to);
-    }))
+    })))
 }
 
-fn version(_: u8) -> Timed {
-    timed(|_, to| {
+fn version(d: u8) -> Timed {
+    timed(d, |_, to| {
         to.pairs = unsafe { sys::thresholm_version() };
         0
     })
 }
 
-fn promotion(_: u8) -> Timed {
+fn promotion(d: u8) -> Timed {
     let (flavor, new_flavor) = (shape(0, Vanilla), shape(0, Projective));
-    timed(|_, to| {
+    timed(d, |_, to| {
         to.test = unsafe { sys::thresholm_promotion(flavor.as_ptr(), new_flavor.as_ptr()) };
         0
     })
 }
 
 fn blade_count(d: u8) -> Timed {
-    timed(|_, to| unsafe { sys::thresholm_blade_count(black_box(d), &mut to.count) })
+    timed(d, |_, to| unsafe { sys::thresholm_blade_count(black_box(d), &mut to.count) })
 }
 
 fn order_of(d: u8) -> Timed {
-    timed(|_, to| {
+    timed(d, |_, to| {
         let (masks, places) = (&mut to.masks[..], &mut to.places[..]);
         let (masks, places, room) = (masks.as_mut_ptr(), places.as_mut_ptr(), masks.len());
         unsafe { sys::thresholm_order_of(black_box(d), masks, room, places, room, &mut to.count) }
@@ -68,7 +68,7 @@ fn read(d: u8) -> Timed {
         return Err("the sheet is refused");
     }
     let bytes = &sheet.bytes[..sheet.count];
-    timed(|_, to| {
+    timed(d, |_, to| {
         let (shapes, out) = (&mut to.shapes[..], &mut to.patterns[..]);
         #[rustfmt::skip]
         let number = unsafe {
@@ -83,12 +83,12 @@ fn read(d: u8) -> Timed {
 
 fn write(d: u8) -> Timed {
     let (shapes, patterns) = (four_shapes(d), patterns(d));
-    timed(|_, to| write_four(&shapes, &patterns, to))
+    timed(d, |_, to| write_four(&shapes, &patterns, to))
 }
 
 fn value_at(d: u8) -> Timed {
     let shapes = four_shapes(d);
-    timed(|i, to| {
+    timed(d, |i, to| {
         let shape = to.shape.as_mut_ptr();
         unsafe { sys::thresholm_value_at(shapes.as_ptr(), shapes.len(), i % 4, shape, &mut to.start) }
     })
@@ -96,7 +96,7 @@ fn value_at(d: u8) -> Timed {
 
 fn numbers_of(d: u8) -> Timed {
     let patterns = &patterns(d)[..1 << d];
-    timed(|_, to| {
+    timed(d, |_, to| {
         let (out, room) = (to.out.as_mut_ptr(), to.out.len());
         unsafe { sys::thresholm_numbers_of(patterns.as_ptr(), patterns.len(), out, room, &mut to.count) }
     })
@@ -104,7 +104,7 @@ fn numbers_of(d: u8) -> Timed {
 
 fn patterns_of(d: u8) -> Timed {
     let numbers = lists(1 << d);
-    timed(|i, to| {
+    timed(d, |i, to| {
         let (out, room) = (to.patterns.as_mut_ptr(), to.patterns.len());
         unsafe { sys::thresholm_patterns_of(numbers[i].as_ptr(), numbers[i].len(), out, room, &mut to.count) }
     })
@@ -130,4 +130,4 @@ pub const ROWS: &[Lone] = &[
 ];
 
 /// What is in the time of every call: the loop and its inputs.
-pub const LOOP: Row = Row { call: "no call", of: "the loop alone", at: |_| timed(|_, _| 0) };
+pub const LOOP: Row = Row { call: "no call", of: "the loop alone", at: |d| timed(d, |_, _| 0) };

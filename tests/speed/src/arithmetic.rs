@@ -7,67 +7,67 @@ use uiua_parser::Flavor::{Projective, Vanilla};
 use uiua_parser::multivector::Multivector;
 
 fn mul(v: Values, w: Values) -> Timed {
-    cell(|i| v.own(i) * w.next(i), two!(thresholm_mul, v, w), same_value)
+    cell(v.dims(), |i| v.own(i) * w.next(i), two!(thresholm_mul, v, w), same_value)
 }
 
 fn add(v: Values, w: Values) -> Timed {
-    cell(|i| v.own(i) + w.next(i), two!(thresholm_add, v, w), same_value)
+    cell(v.dims(), |i| v.own(i) + w.next(i), two!(thresholm_add, v, w), same_value)
 }
 
 fn sub(v: Values, w: Values) -> Timed {
-    cell(|i| v.own(i) - w.next(i), two!(thresholm_sub, v, w), same_value)
+    cell(v.dims(), |i| v.own(i) - w.next(i), two!(thresholm_sub, v, w), same_value)
 }
 
 fn div(v: Values, w: Values) -> Timed {
-    cell(|i| v.own(i) / w.next(i), two!(thresholm_div, v, w), same_value)
+    cell(v.dims(), |i| v.own(i) / w.next(i), two!(thresholm_div, v, w), same_value)
 }
 
 fn mul_f64(d: u8) -> Timed {
     let v = dense(Projective, d);
-    cell(|i| v.own(i) * 0.7, one!(thresholm_mul_f64, v, 0.7), same_value)
+    cell(d, |i| v.own(i) * 0.7, one!(thresholm_mul_f64, v, 0.7), same_value)
 }
 
 fn div_f64(d: u8) -> Timed {
     let v = dense(Projective, d);
-    cell(|i| v.own(i) / 0.7, one!(thresholm_div_f64, v, 0.7), same_value)
+    cell(d, |i| v.own(i) / 0.7, one!(thresholm_div_f64, v, 0.7), same_value)
 }
 
 fn neg(d: u8) -> Timed {
     let v = dense(Projective, d);
-    cell(|i| -v.own(i), one!(thresholm_neg, v), same_value)
+    cell(d, |i| -v.own(i), one!(thresholm_neg, v), same_value)
 }
 
 fn reverse(d: u8) -> Timed {
     let v = dense(Projective, d);
-    cell(|i| v.own(i).reversed(), one!(thresholm_reverse, v), same_value)
+    cell(d, |i| v.own(i).reversed(), one!(thresholm_reverse, v), same_value)
 }
 
 fn inv_reverse(d: u8) -> Timed {
     let v = dense(Projective, d);
-    cell(|i| v.own(i).inv_reversed(), one!(thresholm_inv_reverse, v), same_value)
+    cell(d, |i| v.own(i).inv_reversed(), one!(thresholm_inv_reverse, v), same_value)
 }
 
 fn dual(d: u8) -> Timed {
     let v = dense(Projective, d);
-    cell(|i| v.own(i).dualed(), one!(thresholm_dual, v), same_value)
+    cell(d, |i| v.own(i).dualed(), one!(thresholm_dual, v), same_value)
 }
 
 fn antidual(d: u8) -> Timed {
     let v = dense(Projective, d);
-    cell(|i| v.own(i).antidualed(), one!(thresholm_antidual, v), same_value)
+    cell(d, |i| v.own(i).antidualed(), one!(thresholm_antidual, v), same_value)
 }
 
 fn regressive_product(d: u8) -> Timed {
     let v = dense(Projective, d);
-    cell(|i| v.own(i).regressive_product(v.next(i)), two!(thresholm_regressive_product, v, v), same_value)
+    cell(d, |i| v.own(i).regressive_product(v.next(i)), two!(thresholm_regressive_product, v, v), same_value)
 }
 
 fn inverted(v: Values) -> Timed {
-    cell(|i| v.own(i).inverted(), one!(thresholm_inverted, v), same_value)
+    cell(v.dims(), |i| v.own(i).inverted(), one!(thresholm_inverted, v), same_value)
 }
 
 fn powi(exponent: i32, v: Values) -> Timed {
-    cell(|i| v.own(i).powi(exponent), one!(thresholm_powi, v, exponent), same_value)
+    cell(v.dims(), |i| v.own(i).powi(exponent), one!(thresholm_powi, v, exponent), same_value)
 }
 
 fn make_scalar_only(d: u8) -> Timed {
@@ -76,20 +76,20 @@ fn make_scalar_only(d: u8) -> Timed {
         m.make_scalar_only();
         m
     };
-    cell(|i| changed(v.own(i)), one!(thresholm_make_scalar_only, v), same_value)
+    cell(d, |i| changed(v.own(i)), one!(thresholm_make_scalar_only, v), same_value)
 }
 
 fn take_scalar(d: u8) -> Timed {
     let v = dense(Projective, d);
     let taken = |mut m: Multivector| (m.take_scalar(), m);
     let agree = |(x, m): &(f64, Multivector), to: &Lent| same(*x, to.value) && same_value(m, to);
-    cell(|i| taken(v.own(i)), one!(thresholm_take_scalar, v; value), agree)
+    cell(d, |i| taken(v.own(i)), one!(thresholm_take_scalar, v; value), agree)
 }
 
 fn squared_magnitude(d: u8) -> Timed {
     let v = dense(Projective, d);
     let ours = asked!(thresholm_squared_magnitude, v; value);
-    cell(|i| v.values[i].squared_magnitude(), ours, |x, to| same(*x, to.value))
+    cell(d, |i| v.values[i].squared_magnitude(), ours, |x, to| same(*x, to.value))
 }
 
 /// The test as the Rust's `inverted` makes it, with the number that we give each answer.
@@ -106,18 +106,18 @@ fn tested(m: &Multivector) -> (u8, f64, f64) {
 fn scalar_test(v: Values) -> Timed {
     let agree =
         |(test, re, im): &(u8, f64, f64), to: &Lent| *test == to.test && same(*re, to.value) && same(*im, to.imaginary);
-    cell(|i| tested(&v.values[i]), asked!(thresholm_scalar_test, v; test, value, imaginary), agree)
+    cell(v.dims(), |i| tested(&v.values[i]), asked!(thresholm_scalar_test, v; test, value, imaginary), agree)
 }
 
 fn eq(v: Values) -> Timed {
     let theirs = |i: usize| v.values[i] == v.values[(i + 1) % INPUTS];
-    cell(theirs, compared!(thresholm_eq, v, v, 1; test), |yes, to| *yes as u8 == to.test)
+    cell(v.dims(), theirs, compared!(thresholm_eq, v, v, 1; test), |yes, to| *yes as u8 == to.test)
 }
 
 /// Each value with the one that is so many after it.
 fn cmp(next: usize, v: Values) -> Timed {
     let theirs = |i: usize| v.values[i].cmp(&v.values[(i + next) % INPUTS]);
-    cell(theirs, compared!(thresholm_cmp, v, v, next; order), |o, to| *o as i8 == to.order)
+    cell(v.dims(), theirs, compared!(thresholm_cmp, v, v, next; order), |o, to| *o as i8 == to.order)
 }
 
 pub const ROWS: &[Row] = &[

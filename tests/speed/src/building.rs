@@ -9,12 +9,12 @@ use uiua_parser::multivector::Multivector;
 
 fn vector(d: u8) -> Timed {
     let (v, flavor) = (lists(d as usize), shape(0, Projective));
-    cell(|i| Multivector::vector(&v[i][..], Projective), built!(thresholm_vector, v => flavor), same_value)
+    cell(d, |i| Multivector::vector(&v[i][..], Projective), built!(thresholm_vector, v => flavor), same_value)
 }
 
 fn n_1_blades(d: u8) -> Timed {
     let (v, flavor) = (lists(d as usize), shape(0, Projective));
-    cell(|i| Multivector::n_1_blades(&v[i][..], Projective), built!(thresholm_n_1_blades, v => flavor), same_value)
+    cell(d, |i| Multivector::n_1_blades(&v[i][..], Projective), built!(thresholm_n_1_blades, v => flavor), same_value)
 }
 
 /// Projective, so the value has one dimension more than is stated.
@@ -24,7 +24,7 @@ fn scalar(d: u8) -> Timed {
         let (out, room) = (to.out.as_mut_ptr(), to.out.len());
         unsafe { sys::thresholm_scalar(stated.as_ptr(), x[i][0], out, room, to.shape.as_mut_ptr()) }
     };
-    cell(|i| Multivector::scalar(d - 1, x[i][0], Projective), ours, same_value)
+    cell(d, |i| Multivector::scalar(d - 1, x[i][0], Projective), ours, same_value)
 }
 
 fn pseudoscalar(d: u8) -> Timed {
@@ -33,24 +33,25 @@ fn pseudoscalar(d: u8) -> Timed {
         let (out, room) = (to.out.as_mut_ptr(), to.out.len());
         unsafe { sys::thresholm_pseudoscalar(stated.as_ptr(), x[i][0], out, room, to.shape.as_mut_ptr()) }
     };
-    cell(|i| Multivector::pseudoscalar(d - 1, x[i][0], Projective), ours, same_value)
+    cell(d, |i| Multivector::pseudoscalar(d - 1, x[i][0], Projective), ours, same_value)
 }
 
 fn blades_left(d: u8, count: usize) -> Timed {
     let (v, stated) = (lists(count), shape(d, Projective));
     let theirs = |i: usize| Multivector::blades_left(d, &v[i][..], Projective).unwrap();
-    cell(theirs, built!(thresholm_blades_left, stated, v), same_value)
+    cell(d, theirs, built!(thresholm_blades_left, stated, v), same_value)
 }
 
 fn blades_right(d: u8, count: usize) -> Timed {
     let (v, stated) = (lists(count), shape(d, Projective));
     let theirs = |i: usize| Multivector::blades_right(d, &v[i][..], Projective).unwrap();
-    cell(theirs, built!(thresholm_blades_right, stated, v), same_value)
+    cell(d, theirs, built!(thresholm_blades_right, stated, v), same_value)
 }
 
 fn unpack_all(d: u8, stated: u8) -> Timed {
     let v = dense(Projective, d);
     cell(
+        d,
         |i| uiua::unpack(v.own(i), Some(stated), None).unwrap(),
         unpacked!(thresholm_unpack_all, v, stated),
         |r, to| same_list(r, to),
@@ -60,6 +61,7 @@ fn unpack_all(d: u8, stated: u8) -> Timed {
 fn unpack_even(d: u8) -> Timed {
     let v = dense(Projective, d);
     cell(
+        d,
         |i| uiua::unpack(v.own(i), Some(d), Some(Left)).unwrap(),
         unpacked!(thresholm_unpack_even, v, d),
         |r, to| same_list(r, to),
@@ -69,6 +71,7 @@ fn unpack_even(d: u8) -> Timed {
 fn unpack_odd(d: u8) -> Timed {
     let v = dense(Projective, d);
     cell(
+        d,
         |i| uiua::unpack(v.own(i), Some(d), Some(Right)).unwrap(),
         unpacked!(thresholm_unpack_odd, v, d),
         |r, to| same_list(r, to),
@@ -78,6 +81,7 @@ fn unpack_odd(d: u8) -> Timed {
 fn unpack_own_even(d: u8) -> Timed {
     let v = dense(Projective, d);
     cell(
+        d,
         |i| uiua::unpack(v.own(i), None, Some(Left)).unwrap(),
         unpacked!(thresholm_unpack_own_even, v),
         |r, to| same_list(r, to),
@@ -87,6 +91,7 @@ fn unpack_own_even(d: u8) -> Timed {
 fn unpack_own_odd(d: u8) -> Timed {
     let v = dense(Projective, d);
     cell(
+        d,
         |i| uiua::unpack(v.own(i), None, Some(Right)).unwrap(),
         unpacked!(thresholm_unpack_own_odd, v),
         |r, to| same_list(r, to),
@@ -96,6 +101,7 @@ fn unpack_own_odd(d: u8) -> Timed {
 fn unpack_vector(d: u8) -> Timed {
     let v = dense(Projective, d);
     cell(
+        d,
         |i| uiua::unpack(v.own(i), None, None).unwrap(),
         unpacked!(thresholm_unpack_vector, v),
         |r, to| same_list(r, to),

@@ -5,29 +5,28 @@ use crate::table::Row;
 use crate::values::{Lent, Shape, cell, shape};
 use uiua_parser::Flavor::{self, Cl, Projective, Vanilla};
 
-/// Flavors of every kind in rotation.
-fn every() -> Vec<Flavor> {
-    (0..INPUTS).map(|i| [Vanilla, Projective, Cl(3, 1, 1), Cl(2, 2, 0)][i * 7 / 4 % 4]).collect()
+/// Flavors of every kind in rotation, each as both sides have it.
+pub fn every() -> (Vec<Flavor>, Vec<Shape>) {
+    let flavors = (0..INPUTS).map(|i| [Vanilla, Projective, Cl(3, 1, 1), Cl(2, 2, 0)][i * 7 / 4 % 4]);
+    flavors.map(|f| (f, shape(0, f))).unzip()
 }
 
 fn metric() -> Timed {
-    let flavors = every();
-    let given: Vec<Shape> = flavors.iter().map(|f| shape(0, *f)).collect();
+    let (flavors, given) = every();
     let ours = |i: usize, to: &mut Lent| {
         to.order = unsafe { sys::thresholm_metric(given[i].as_ptr(), i as u8 % 9) };
         0
     };
-    cell(|i| flavors[i].metric(i as u8 % 9), ours, |m, to| *m == to.order as i32)
+    cell(0, |i| flavors[i].metric(i as u8 % 9), ours, |m, to| *m == to.order as i32)
 }
 
 fn added_dims() -> Timed {
-    let flavors = every();
-    let given: Vec<Shape> = flavors.iter().map(|f| shape(0, *f)).collect();
+    let (flavors, given) = every();
     let ours = |i: usize, to: &mut Lent| {
         to.test = unsafe { sys::thresholm_added_dims(given[i].as_ptr()) };
         0
     };
-    cell(|i| flavors[i].dim_adjustment(), ours, |n, to| *n == to.test)
+    cell(0, |i| flavors[i].dim_adjustment(), ours, |n, to| *n == to.test)
 }
 
 fn try_from_str(text: &'static str) -> Timed {
@@ -36,7 +35,7 @@ fn try_from_str(text: &'static str) -> Timed {
         sys::thresholm_try_from_str(texts[i].as_ptr(), texts[i].len(), to.shape.as_mut_ptr())
     };
     let agree = |f: &Flavor, to: &Lent| to.shape == shape(0, *f);
-    cell(|i| Flavor::try_from_str(texts[i]).unwrap().unwrap(), ours, agree)
+    cell(0, |i| Flavor::try_from_str(texts[i]).unwrap().unwrap(), ours, agree)
 }
 
 fn write_to(flavor: Flavor) -> Timed {
@@ -45,7 +44,7 @@ fn write_to(flavor: Flavor) -> Timed {
         let (out, room) = (to.bytes.as_mut_ptr(), to.bytes.len());
         unsafe { sys::thresholm_write_to(given[i].as_ptr(), out, room, &mut to.count) }
     };
-    cell(|i| flavors[i].to_string(), ours, |text, to| *text.as_bytes() == to.bytes[..to.count])
+    cell(0, |i| flavors[i].to_string(), ours, |text, to| *text.as_bytes() == to.bytes[..to.count])
 }
 
 pub const ROWS: &[Row] = &[

@@ -1,5 +1,5 @@
-//! Times every exported call against the Rust's on the same inputs, d from 2 to 6, and prints the table in Markdown; or the calls that are named
-//! alone, with two decimals. Before a call is timed, both must give the same bits, but for a NaN's.
+//! Times every exported call against the Rust's on the same inputs, d from 2 to 9, and prints the table in Markdown; or with --check what is above
+//! its limit; or the calls that are named alone, with two decimals. Before a call is timed, both must give the same bits, but for a NaN's.
 #[macro_use]
 mod ours;
 mod alone;
@@ -8,7 +8,10 @@ mod building;
 #[path = "../../calls.rs"]
 mod calls;
 mod flavors;
+mod floors;
+mod limits;
 mod measure;
+mod print;
 mod products;
 mod shapes;
 #[path = "../../../rust/src/sys.rs"]
@@ -19,8 +22,12 @@ mod values;
 use std::process::ExitCode;
 
 fn main() -> ExitCode {
-    let named: Vec<String> = std::env::args().skip(1).collect();
-    let printed = if named.is_empty() { table::print(calls::CALLS) } else { table::print_named(&named) };
+    let words: Vec<String> = std::env::args().skip(1).collect();
+    let printed = match words.first().map(String::as_str) {
+        None => print::all(),
+        Some("--check") => print::check(),
+        Some(_) => print::named(&words),
+    };
     match printed {
         Ok(()) => ExitCode::SUCCESS,
         Err(why) => {

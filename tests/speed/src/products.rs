@@ -13,7 +13,7 @@ fn product(mut a: Multivector, b: Multivector) -> Multivector {
 }
 
 fn general(v: Values, w: Values) -> Timed {
-    cell(|i| product(v.own(i), w.next(i)), two!(thresholm_general_product, v, w; pairs), same_value)
+    cell(v.dims(), |i| product(v.own(i), w.next(i)), two!(thresholm_general_product, v, w; pairs), same_value)
 }
 
 fn general_in(flavor: Flavor, d: u8) -> Timed {
@@ -22,22 +22,22 @@ fn general_in(flavor: Flavor, d: u8) -> Timed {
 
 fn left_contraction(d: u8) -> Timed {
     let v = dense(Projective, d);
-    cell(|i| v.own(i).left_contraction(v.next(i)), two!(thresholm_left_contraction, v, v; pairs), same_value)
+    cell(d, |i| v.own(i).left_contraction(v.next(i)), two!(thresholm_left_contraction, v, v; pairs), same_value)
 }
 
 fn right_contraction(d: u8) -> Timed {
     let v = dense(Projective, d);
-    cell(|i| v.own(i).right_contraction(v.next(i)), two!(thresholm_right_contraction, v, v; pairs), same_value)
+    cell(d, |i| v.own(i).right_contraction(v.next(i)), two!(thresholm_right_contraction, v, v; pairs), same_value)
 }
 
 fn inner_product(d: u8) -> Timed {
     let v = dense(Projective, d);
-    cell(|i| v.own(i).inner_product(v.next(i)), two!(thresholm_inner_product, v, v; pairs), same_value)
+    cell(d, |i| v.own(i).inner_product(v.next(i)), two!(thresholm_inner_product, v, v; pairs), same_value)
 }
 
 fn outer_product(d: u8) -> Timed {
     let v = dense(Projective, d);
-    cell(|i| v.own(i).outer_product(v.next(i)), two!(thresholm_outer_product, v, v; pairs), same_value)
+    cell(d, |i| v.own(i).outer_product(v.next(i)), two!(thresholm_outer_product, v, v; pairs), same_value)
 }
 
 pub const ROWS: &[Row] = &[

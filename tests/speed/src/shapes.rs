@@ -10,7 +10,7 @@ use uiua_parser::multivector::{Multivector, harness};
 
 fn grade_size(d: u8) -> Timed {
     let ours = |_, to: &mut Lent| unsafe { sys::thresholm_grade_size(black_box(d), d / 2, &mut to.count) };
-    cell(|_| rust_grade_size(black_box(d), d / 2), ours, |n, to| *n == to.count)
+    cell(d, |_| rust_grade_size(black_box(d), d / 2), ours, |n, to| *n == to.count)
 }
 
 /// The Rust's way: a value is changed where it lies.
@@ -21,17 +21,17 @@ fn changed(mut m: Multivector, change: impl FnOnce(&mut Multivector)) -> Multive
 
 fn set_dims(d: u8, new: u8) -> Timed {
     let v = dense(Projective, d);
-    cell(|i| changed(v.own(i), |m| m.set_dims(new)), one!(thresholm_set_dims, v, new), same_value)
+    cell(d, |i| changed(v.own(i), |m| m.set_dims(new)), one!(thresholm_set_dims, v, new), same_value)
 }
 
 fn set_flavor(v: Values, new: Flavor) -> Timed {
     let (theirs, flavor) = (|i| changed(v.own(i), |m| m.set_flavor(new)), shape(0, new));
-    cell(theirs, one!(thresholm_set_flavor, v, flavor.as_ptr()), same_value)
+    cell(v.dims(), theirs, one!(thresholm_set_flavor, v, flavor.as_ptr()), same_value)
 }
 
 fn conform_to(v: Values, w: Values) -> Timed {
     let theirs = |i| changed(v.own(i), |m| harness::conform_to(m, &w.values[i]));
-    cell(theirs, one!(thresholm_conform_to, v, w.shape.as_ptr()), same_value)
+    cell(v.dims(), theirs, one!(thresholm_conform_to, v, w.shape.as_ptr()), same_value)
 }
 
 /// Ours writes both values to lent outputs.
@@ -54,19 +54,19 @@ fn conform(v: Values, w: Values) -> Timed {
         harness::conform(&mut a, &mut b);
         (a, b)
     };
-    cell(|i| conformed(v.own(i), w.next(i)), |i, to: &mut Lent| conform_ours(&v, &w, i, to), same_values)
+    cell(v.dims(), |i| conformed(v.own(i), w.next(i)), |i, to: &mut Lent| conform_ours(&v, &w, i, to), same_values)
 }
 
 fn get_blade(d: u8) -> Timed {
     let (v, mask) = (dense(Projective, d), (1 << d) - 2);
     let ours = asked!(thresholm_get_blade, v, mask; value);
-    cell(|i| v.values[i].get_blade(black_box(mask)), ours, |x, to| same(*x, to.value))
+    cell(d, |i| v.values[i].get_blade(black_box(mask)), ours, |x, to| same(*x, to.value))
 }
 
 fn set_blade(d: u8, mask: usize) -> Timed {
     let v = dense(Projective, d);
     let theirs = |i| changed(v.own(i), |m| m.set_blade(black_box(mask), 0.7));
-    cell(theirs, one!(thresholm_set_blade, v, mask, 0.7), same_value)
+    cell(d, theirs, one!(thresholm_set_blade, v, mask, 0.7), same_value)
 }
 
 fn grade(d: u8) -> Timed {
@@ -74,7 +74,7 @@ fn grade(d: u8) -> Timed {
     let ours = asked!(thresholm_grade, v, g; start, count);
     // Ours gives where the grade stands in the caller's numbers; the reference hands out that part of its own.
     let theirs = |i: usize| (i, v.values[i].grades().nth(black_box(g) as usize).unwrap());
-    cell(theirs, ours, |(i, part), to| {
+    cell(d, theirs, ours, |(i, part), to| {
         part.len() == to.count && same_numbers(part, &v.numbers[*i][to.start..][..to.count])
     })
 }
