@@ -23,6 +23,7 @@ mod sheet_lists;
 mod sheet_reader;
 mod sheet_stored;
 mod sheets;
+mod snap_lists;
 mod stored;
 mod whole_lists;
 mod written;

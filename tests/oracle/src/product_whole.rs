@@ -94,7 +94,7 @@ pub fn finite_edges(each: &mut impl FnMut(Call)) {
 }
 
 /// Numbers by 1 and by -1 in turn, sixteen at a time at d = 4: each is snapped by itself.
-fn by_unit(list: &[f64], each: &mut impl FnMut(Call)) {
+pub fn by_unit(list: &[f64], each: &mut impl FnMut(Call)) {
     let mut unit = vec![0.0; 16];
     for (some, sign) in list.chunks(16).zip([1.0, -1.0].iter().cycle()) {
         let mut a = some.to_vec();

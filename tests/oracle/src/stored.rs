@@ -3,7 +3,7 @@ use crate::line::{Call, SheetCall};
 use crate::numbers::Rng;
 use crate::{
     arithmetic, arithmetic_lists, corners, lists, masks, product_lists, product_whole, products, refusals,
-    sheet_damage, sheet_stored, whole_lists,
+    sheet_damage, sheet_stored, snap_lists, whole_lists,
 };
 use std::ops::RangeInclusive;
 
@@ -35,6 +35,7 @@ pub fn stored(to: &mut impl Takes) {
         }
     }
     product_whole::finite_edges(each);
+    snap_lists::all(each);
     for op in ARITHMETIC {
         for i in 0..120 {
             let most = if i % 20 == 0 { 3 } else { 1 + i % 5 / 4 };
