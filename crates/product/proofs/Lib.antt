@@ -2,6 +2,7 @@
 pub mod MetricSigns
 pub mod PairwisePartners
 pub mod PairwiseZero
+pub mod PairwiseNegated
 pub mod PairsTotal
 pub mod PairwiseLaws
 pub mod ProductsLaws

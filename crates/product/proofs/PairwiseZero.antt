@@ -63,7 +63,7 @@ kept-zero p w den (suc n) P D e z =
     absurd (lt-irrefl 0 (subst (λ (x : ℕ). 1 ≤ x) z (le-trans some (nearest-ge (w / u) (compare (w % u * 2) u)))))
 
 -- A whole number of the smallest values, which is not zero, is not rounded to zero.
-round-minus-zero : (f : Format) (s : Bool) (num den n : ℕ) → 0 < den → num * 2 ^ low f ≡ n * den → MinusZero (round f s num den) → (s ≡ true) × (num ≡ 0)
+pub round-minus-zero : (f : Format) (s : Bool) (num den n : ℕ) → 0 < den → num * 2 ^ low f ≡ n * den → MinusZero (round f s num den) → (s ≡ true) × (num ≡ 0)
 round-minus-zero f s num den n D e z =
     let v = units-minus-zero f s _ (size (num * 2 ^ low f / den) - prec f) (subst MinusZero (round-is f s num den) z) in
     let none : n ≡ 0 = kept-zero (prec f) (num * 2 ^ low f) den n (prec-pos f) D e (v .1) in
@@ -71,11 +71,12 @@ round-minus-zero f s num den n D e z =
 
 -- ---- one addition
 
+-- A difference of two whole numbers of smallest values is one.
+pub minus-units : (f : Format) (c x y X Y : ℕ) → x * 2 ^ low f ≡ X * c → y * 2 ^ low f ≡ Y * c → (x - y) * 2 ^ low f ≡ (X - Y) * c
+minus-units f c x y X Y v w = sub-mul x y (2 ^ low f) ∙ ap₂ (λ (m n : ℕ). m - n) v w ∙ sym (sub-mul X Y c)
+
 -- A sum of a and b, each a whole number of smallest values, is -0 only where a has the sign minus and is 0.
 module _ (f : Format) (a b c A B : ℕ) (C : 0 < c) (p : a * 2 ^ low f ≡ A * c) (q : b * 2 ^ low f ≡ B * c) where
-  less : (x y X Y : ℕ) → x * 2 ^ low f ≡ X * c → y * 2 ^ low f ≡ Y * c → (x - y) * 2 ^ low f ≡ (X - Y) * c
-  less x y X Y v w = sub-mul x y (2 ^ low f) ∙ ap₂ (λ (m n : ℕ). m - n) v w ∙ sym (sub-mul X Y c)
-
   sum-minus-zero : (s t : Bool) → MinusZero (sum f s a t b c) → (s ≡ true) × (a ≡ 0)
   unfolding sum
   sum-minus-zero false false z = absurd (false≢true (round-minus-zero f false (a + b) c (A + B) C (omega arith) z .0))
@@ -83,14 +84,23 @@ module _ (f : Format) (a b c A B : ℕ) (C : 0 < c) (p : a * 2 ^ low f ≡ A * c
   sum-minus-zero false true z = go (ltb a b) (ltb→lt a b) z
     where
       go : (x : Bool) → (T x → a < b) → MinusZero (cond x (round f true (b - a) c) (round f false (a - b) c)) → (false ≡ true) × (a ≡ 0)
-      go true h z = let l : a < b = h tt in absurd (omega (arith, round-minus-zero f true (b - a) c (B - A) C (less b a B A q p) z .1))
-      go false h z = absurd (false≢true (round-minus-zero f false (a - b) c (A - B) C (less a b A B p q) z .0))
+      go true h z = let l : a < b = h tt in absurd (omega (arith, round-minus-zero f true (b - a) c (B - A) C (minus-units f c b a B A q p) z .1))
+      go false h z = absurd (false≢true (round-minus-zero f false (a - b) c (A - B) C (minus-units f c a b A B p q) z .0))
   sum-minus-zero true false z = go (ltb a b) (ltb b a) (ltb→lt b a) z
     where
       go : (x y : Bool) → (T y → b < a) → MinusZero (cond x (round f false (b - a) c) (round f y (a - b) c)) → (true ≡ true) × (a ≡ 0)
-      go true y h z = absurd (false≢true (round-minus-zero f false (b - a) c (B - A) C (less b a B A q p) z .0))
-      go false true h z = let l : b < a = h tt in absurd (omega (arith, round-minus-zero f true (a - b) c (A - B) C (less a b A B p q) z .1))
-      go false false h z = absurd (false≢true (round-minus-zero f false (a - b) c (A - B) C (less a b A B p q) z .0))
+      go true y h z = absurd (false≢true (round-minus-zero f false (b - a) c (B - A) C (minus-units f c b a B A q p) z .0))
+      go false true h z = let l : b < a = h tt in absurd (omega (arith, round-minus-zero f true (a - b) c (A - B) C (minus-units f c a b A B p q) z .1))
+      go false false h z = absurd (false≢true (round-minus-zero f false (a - b) c (A - B) C (minus-units f c a b A B p q) z .0))
+
+-- What the format holds, over a denominator that it shares with another, is a whole number of smallest values: as the left one of the two, and as the right one.
+pub left-units : (f : Format) (s : Bool) (m : ℕ) (e d : ℤ) → T (fits f (fin s m e)) → m * up e * down d * 2 ^ low f ≡ sizeIn (low f) (fin s m e) * (down e * down d)
+left-units f s m e d h =
+    let v : HasValue (fin s m e) s (sizeIn (low f) (fin s m e)) (2 ^ low f) = finite-whole f (fin s m e) tt h in
+    mul-right-comm (m * up e) (down d) (2 ^ low f) ∙ ap (λ (x : ℕ). x * down d) (v .1) ∙ mul-assoc (sizeIn (low f) (fin s m e)) (down e) (down d)
+
+pub right-units : (f : Format) (s : Bool) (m : ℕ) (e d : ℤ) → T (fits f (fin s m e)) → m * up e * down d * 2 ^ low f ≡ sizeIn (low f) (fin s m e) * (down d * down e)
+right-units f s m e d h = left-units f s m e d h ∙ ap (λ (x : ℕ). sizeIn (low f) (fin s m e) * x) (mul-comm (down e) (down d))
 
 not-finite : (x : Float) → T (not (finite x)) → MinusZero x → ⊥
 not-finite x h (e, z) = subst (λ (y : Float). T (not (finite y))) z h
@@ -105,17 +115,9 @@ add-minus-zero f (inf s) (fin t n d) g h z = absurd (not-finite (inf s) tt z)
 add-minus-zero f (fin s m e) nan g h z = absurd (not-finite nan tt z)
 add-minus-zero f (fin s m e) (inf t) g h z = absurd (not-finite (inf t) tt z)
 add-minus-zero f (fin s m e) (fin t n d) g h z =
-    let a = m * up e in
-    let b = n * up d in
-    let v : HasValue (fin s m e) s (sizeIn (low f) (fin s m e)) (2 ^ low f) = finite-whole f (fin s m e) tt g in
-    let w : HasValue (fin t n d) t (sizeIn (low f) (fin t n d)) (2 ^ low f) = finite-whole f (fin t n d) tt h in
     let r =
-    sum-minus-zero f (a * down d) (b * down e) (down e * down d) (sizeIn (low f) (fin s m e)) (sizeIn (low f) (fin t n d)) (mul-pos (down-pos e) (down-pos d))
-    (mul-right-comm a (down d) (2 ^ low f) ∙ ap (λ (x : ℕ). x * down d) (v .1) ∙ mul-assoc (sizeIn (low f) (fin s m e)) (down e) (down d))
-    (mul-right-comm b (down e) (2 ^ low f) ∙ ap (λ (x : ℕ). x * down e) (w .1) ∙ mul-assoc (sizeIn (low f) (fin t n d)) (down d) (down e)
-    ∙ ap (λ (x : ℕ). sizeIn (low f) (fin t n d) * x) (mul-comm (down d) (down e)))
-    s t z in
-    (e, ap₂ (λ (x : Bool) (k : ℕ). fin x k e) (r .0) (product-zero m (up e) (up-pos e) (product-zero a (down d) (down-pos d) (r .1))))
+    sum-minus-zero f (m * up e * down d) (n * up d * down e) (down e * down d) (sizeIn (low f) (fin s m e)) (sizeIn (low f) (fin t n d)) (mul-pos (down-pos e) (down-pos d)) (left-units f s m e d g) (right-units f t n d e h) s t z in
+    (e, ap₂ (λ (x : Bool) (k : ℕ). fin x k e) (r .0) (product-zero m (up e) (up-pos e) (product-zero (m * up e) (down d) (down-pos d) (r .1))))
 
 -- ---- a sum of terms
 

@@ -4,6 +4,7 @@ pub mod SignedLaws
 pub mod ValueLaws
 pub mod FitsLaws
 pub mod OperationLaws
+pub mod NegatedLaws
 pub mod TermsLaws
 pub mod SizedLaws
 pub mod SnapLaws
