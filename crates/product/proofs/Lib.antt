@@ -23,3 +23,4 @@ pub mod Lowest
 pub mod ProductsRefusals
 pub mod MetricLaws
 pub mod PairsBounds
+pub mod Subsets
