@@ -2,13 +2,15 @@
 use mathlib.Core.Path.{_≡_, refl, sym, ap, _∙_}
 use mathlib.Core.Bool.{Bool, true, false, _&&_, cond, false≢true}
 use mathlib.Core.List.{List, [], _∷_}
-use Prim.Native.Nat.{ℕ, zero, suc, _^_, _<_}
+use Prim.Native.Nat.{ℕ, zero, suc, _+_, _^_, _≤_, _<_}
 use native.Mathlib.Nat.{le-of-suc-le-suc, not-suc-le-zero}
+use native.Mathlib.Numerals.{add-one}
 use native.Mathlib.Omega.{arith}
 use borrow.Author.Tests.{eqb-true, eq-eqb}
 use lib.Dec.{eqb}
 use lib.Ieee.{Float, nan}
-use lib.ListN.{length, getD}
+use lib.ListN.{length, getD, drop, drop-of-length-le}
+use lib.Seq.{drop-cons}
 use Rattle.masks.specs.declared.flavor.Flavor.{Flavor}
 use Rattle.masks.specs.declared.flavor.Flavor.the-variants.{Vanilla, Projective, Cl}
 use Rattle.masks.specs.declared.shape.Shape.{Shape}
@@ -19,7 +21,7 @@ use Rattle.arithmetic.specs.Scalar.{isZero, allZero, isScalar, isVanilla
 
 -- ---- tests
 
-and-both : (a b : Bool) → (a && b) ≡ true → (a ≡ true) × (b ≡ true)
+pub and-both : (a b : Bool) → (a && b) ≡ true → (a ≡ true) × (b ≡ true)
 and-both true b e = (refl, e)
 and-both false b e = (e, cc)
 
@@ -29,6 +31,53 @@ not-so true h = absurd (h refl)
 not-so false h = refl
 
 -- ---- places
+
+-- What the numbers from i on say, by the one at i.
+pub zeros-next : (a : List Float) (i : ℕ) (b : Bool) → i < length a → isZero (getD a i nan) ≡ b → allZero (drop i a) ≡ (b && allZero (drop (i + 1) a))
+unfolding allZero
+zeros-next a i b l e = rw (drop-cons a i nan l, add-one i, e)
+
+and-four : (w x y z t : Bool) → (w && (x && (y && (z && t)))) ≡ ((((w && x) && y) && z) && t)
+and-four false x y z t = refl
+and-four true false y z t = refl
+and-four true true false z t = refl
+and-four true true true z t = refl
+
+zeros-step : (a : List Float) (i j : ℕ) (b : Bool) → j ≡ i + 1 → i < length a → isZero (getD a i nan) ≡ b → allZero (drop i a) ≡ (b && allZero (drop j a))
+zeros-step a i j b e l q = zeros-next a i b l q ∙ ap (λ (n : ℕ). b && allZero (drop n a)) (sym e)
+
+-- The same, by the four numbers from i on.
+pub four-next : (a : List Float) (i : ℕ) (w x y z : Bool) → i + 4 ≤ length a → isZero (getD a i nan) ≡ w → isZero (getD a (i + 1) nan) ≡ x → isZero (getD a (i + 2) nan) ≡ y → isZero (getD a (i + 3) nan) ≡ z
+    → allZero (drop i a) ≡ ((((w && x) && y) && z) && allZero (drop (i + 4) a))
+four-next a i w x y z l p q r s =
+    zeros-step a i (i + 1) w refl (omega arith) p
+    ∙ ap (λ (t : Bool). w && t) (zeros-step a (i + 1) (i + 2) x (omega arith) (omega arith) q)
+    ∙ ap (λ (t : Bool). w && (x && t)) (zeros-step a (i + 2) (i + 3) y (omega arith) (omega arith) r)
+    ∙ ap (λ (t : Bool). w && (x && (y && t))) (zeros-step a (i + 3) (i + 4) z (omega arith) (omega arith) s)
+    ∙ and-four w x y z (allZero (drop (i + 4) a))
+
+pub zeros-none : (a : List Float) (i : ℕ) → length a ≤ i → allZero (drop i a) ≡ true
+unfolding allZero
+zeros-none a i l = rw (drop-of-length-le a l)
+
+pub scalar-none : (a : List Float) → length a ≡ 0 → isScalar a ≡ false
+unfolding isScalar
+scalar-none [] e = refl
+scalar-none (x ∷ a) e = absurd (omega arith)
+
+-- Of some numbers those after the first count.
+pub scalar-rest : (a : List Float) → (length a ≡ 0 → ⊥) → isScalar a ≡ allZero (drop 1 a)
+unfolding isScalar
+scalar-rest [] h = absurd (h refl)
+scalar-rest (x ∷ a) h = refl
+
+-- Of four numbers or more.
+pub scalar-three : (a : List Float) (x y z : Bool) → 4 ≤ length a → isZero (getD a 1 nan) ≡ x → isZero (getD a 2 nan) ≡ y → isZero (getD a 3 nan) ≡ z → isScalar a ≡ (x && (y && (z && allZero (drop 4 a))))
+scalar-three a x y z l p q r =
+    scalar-rest a (λ e. omega arith)
+    ∙ zeros-step a 1 2 x refl (omega arith) p
+    ∙ ap (λ (t : Bool). x && t) (zeros-step a 2 3 y refl (omega arith) q)
+    ∙ ap (λ (t : Bool). x && (y && t)) (zeros-step a 3 4 z refl (omega arith) r)
 
 zeros-at : (xs : List Float) → allZero xs ≡ true → (i : ℕ) → i < length xs → isZero (getD xs i nan) ≡ true
 unfolding allZero

@@ -4,9 +4,10 @@ use masks::outcome::DONE;
 use masks::outcome::value_refusal;
 use masks::shape::Shape;
 ghost use mathlib.Core.Path.{_≡_};
-ghost use Prim.Native.Nat.{_^_};
-ghost use lib.ListN.{length};
-ghost use Rattle.arithmetic.specs.Scalar.{isScalar, isVanilla, isPlanar, testOf, scalarTest};
+ghost use mathlib.Core.Bool.{false, _&&_};
+ghost use Prim.Native.Nat.{_+_, _^_, _≤_};
+ghost use lib.ListN.{length, drop};
+ghost use Rattle.arithmetic.specs.Scalar.{allZero, isScalar, isVanilla, isPlanar, testOf, scalarTest};
 
 // A complex number.
 pub struct Complex {
@@ -26,14 +27,11 @@ pub struct Tested {
     pub test: ScalarTest,
 }
 
-// Whether every number after place 0 equals zero.
-pub(crate) fn is_scalar(a: &[f64]) -> bool
-    ensures { λ r. ⌜ r ≡ isScalar (now (a .entry)) ⌝ }
+// Whether every number from the place `first` on equals zero.
+fn zero_from(a: &[f64], first: usize) -> bool
+    ensures { λ r. ⌜ r ≡ allZero (drop first (now (a .entry))) ⌝ }
 {
-    if a.len() == 0 {
-        return false;
-    }
-    let mut i: usize = 1;
+    let mut i = first;
     while i < a.len() {
         if a[i] != 0.0 {
             return false;
@@ -41,6 +39,51 @@ pub(crate) fn is_scalar(a: &[f64]) -> bool
         i += 1;
     }
     true
+}
+
+// Whether the four numbers from place i on equal zero.
+fn four_zero(a: &[f64], i: usize) -> bool
+    requires { ⌜ i + 4 ≤ length (now a) ⌝ }
+    ensures { λ r. ⌜ allZero (drop i (now (a .entry))) ≡ (r && allZero (drop (i + 4) (now (a .entry)))) ⌝ }
+{
+    (a[i] == 0.0) & (a[i + 1] == 0.0) & (a[i + 2] == 0.0) & (a[i + 3] == 0.0)
+}
+
+// Whether every number from place 4 on equals zero, four at a time.
+fn zero_by_fours(a: &[f64]) -> bool
+    requires { ⌜ 4 ≤ length (now a) ⌝ }
+    ensures { λ r. ⌜ r ≡ allZero (drop 4 (now (a .entry))) ⌝ }
+{
+    let mut i: usize = 4;
+    while i + 4 <= a.len() {
+        if !four_zero(a, i) {
+            return false;
+        }
+        i += 4;
+    }
+    zero_from(a, i)
+}
+
+// Whether every number after place 0 equals zero.
+pub(crate) fn is_scalar(a: &[f64]) -> bool
+    ensures { λ r. ⌜ r ≡ isScalar (now (a .entry)) ⌝ }
+{
+    if a.len() < 4 {
+        if a.len() == 0 {
+            return false;
+        }
+        return zero_from(a, 1);
+    }
+    if a[1] == 0.0 {
+        if a[2] == 0.0 {
+            if a[3] == 0.0 {
+                return zero_by_fours(a);
+            }
+            return false;
+        }
+        return false;
+    }
+    false
 }
 
 fn is_vanilla(flavor: Flavor) -> bool
@@ -64,6 +107,18 @@ fn is_planar(shape: Shape, a: &[f64]) -> bool
     is_vanilla(flavor) && a[1] == 0.0 && a[2] == 0.0
 }
 
+// The test of a value that is not scalar.
+fn test_other(shape: Shape, a: &[f64]) -> ScalarTest
+    requires { ⌜ (length (now a) ≡ 2 ^ (shape .dims)) × (isScalar (now a) ≡ false) ⌝ }
+    ensures { λ r. ⌜ r ≡ testOf shape (now (a .entry)) ⌝ }
+{
+    if is_planar(shape, a) {
+        let pair = Complex { re: a[0], im: a[3] };
+        return ScalarTest::Planar(pair);
+    }
+    ScalarTest::Neither
+}
+
 // Scalar is tried first.
 pub(crate) fn test_of(shape: Shape, a: &[f64]) -> ScalarTest
     requires { ⌜ length (now a) ≡ 2 ^ (shape .dims) ⌝ }
@@ -72,14 +127,10 @@ pub(crate) fn test_of(shape: Shape, a: &[f64]) -> ScalarTest
     if is_scalar(a) {
         return ScalarTest::Scalar(a[0]);
     }
-    if is_planar(shape, a) {
-        let pair = Complex { re: a[0], im: a[3] };
-        return ScalarTest::Planar(pair);
-    }
-    ScalarTest::Neither
+    test_other(shape, a)
 }
 
-// The scalar test of a value.
+// The scalar test of a value; as `test_of` does it, which is not called, so that its answer is not copied.
 pub fn scalar_test(shape: Shape, a: &[f64]) -> Tested
     ensures { λ r. ⌜ r ≡ scalarTest shape (now (a .entry)) ⌝ }
 {
@@ -88,6 +139,10 @@ pub fn scalar_test(shape: Shape, a: &[f64]) -> Tested
         let test = ScalarTest::Neither;
         return Tested { number: no, test };
     }
-    let test = test_of(shape, a);
+    if is_scalar(a) {
+        let test = ScalarTest::Scalar(a[0]);
+        return Tested { number: DONE, test };
+    }
+    let test = test_other(shape, a);
     Tested { number: DONE, test }
 }
