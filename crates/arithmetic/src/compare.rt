@@ -2,17 +2,17 @@
 use super::outcome::Ordered;
 use super::outcome::Ordering;
 use super::outcome::YesNo;
-use super::scalar::ScalarTest;
-use super::scalar::test_of;
+use super::scalar::is_scalar;
 use masks::outcome::DONE;
 use masks::outcome::pair_refusal;
 use masks::shape::Shape;
 ghost use mathlib.Core.Path.{_≡_};
-ghost use mathlib.Core.Bool.{true, false};
-ghost use lib.Ieee.{eq};
-ghost use lib.ListN.{length};
+ghost use mathlib.Core.Bool.{true, _||_};
+ghost use Prim.Native.Nat.{_+_, _^_, _≤_, _<_};
+ghost use lib.Ieee.{nan, eq};
+ghost use lib.ListN.{length, getD, drop};
 ghost use Rattle.masks.specs.Outcome.{refusal};
-ghost use Rattle.arithmetic.specs.Scalar.{ifScalar};
+ghost use Rattle.arithmetic.specs.Scalar.{isScalar, testOf};
 ghost use Rattle.arithmetic.specs.Compare.{comparedTests, answersAgree, sameNumber, samePlaces, equals, comparedNans, comparedNumbers, comparedPlaces, comparedLists, comparedBy, compared};
 
 // The number that a comparison is refused with, or 0: room for any value is never too little.
@@ -22,39 +22,6 @@ fn compare_refusal(left: Shape, right: Shape, a: &[f64], b: &[f64]) -> u8
     pair_refusal(left.dims, right.dims, left.dims, a.len(), b.len(), 512)
 }
 
-// Whether the right answers scalar with a number equal to x.
-fn agrees_with(x: f64, u: ScalarTest) -> bool
-    ensures { λ r. ⌜ r ≡ ifScalar u (eq x) false ⌝ }
-{
-    match u {
-        ScalarTest::Scalar(y) => x == y,
-        ScalarTest::Planar(_) => false,
-        ScalarTest::Neither => false,
-    }
-}
-
-// Whether the test answers scalar with no number.
-fn answers_none(u: ScalarTest) -> bool
-    ensures { λ r. ⌜ r ≡ ifScalar u (λ y. false) true ⌝ }
-{
-    match u {
-        ScalarTest::Scalar(_) => false,
-        ScalarTest::Planar(_) => true,
-        ScalarTest::Neither => true,
-    }
-}
-
-// Whether both scalar answers agree.
-fn answers_agree(t: ScalarTest, u: ScalarTest) -> bool
-    ensures { λ r. ⌜ r ≡ answersAgree t u ⌝ }
-{
-    match t {
-        ScalarTest::Scalar(x) => agrees_with(x, u),
-        ScalarTest::Planar(_) => answers_none(u),
-        ScalarTest::Neither => answers_none(u),
-    }
-}
-
 // NaN is the one number that doesn't equal itself.
 fn same_number(x: f64, y: f64) -> bool
     ensures { λ r. ⌜ r ≡ sameNumber x y ⌝ }
@@ -62,20 +29,28 @@ fn same_number(x: f64, y: f64) -> bool
     x == y || (x != x && y != y)
 }
 
-fn same_places(a: &[f64], b: &[f64]) -> bool
-    ensures { λ r. ⌜ r ≡ samePlaces (now (a .entry)) (now (b .entry)) ⌝ }
+// Whether two scalars are equal: of one count NaN is equal to NaN.
+fn equal_scalars(a: &[f64], b: &[f64]) -> bool
+    requires { ⌜ (isScalar (now a) ≡ true) × (isScalar (now b) ≡ true) ⌝ }
+    ensures { λ r. ⌜ r ≡ (eq (getD (now (a .entry)) 0 nan) (getD (now (b .entry)) 0 nan) || samePlaces (now (a .entry)) (now (b .entry))) ⌝ }
 {
-    if a.len() != b.len() {
+    if a.len() == b.len() {
+        return same_number(a[0], b[0]);
+    }
+    a[0] == b[0]
+}
+
+// Whether two values that are not refused are equal: a scalar and another value have no places in common.
+fn equal_values(left: Shape, right: Shape, a: &[f64], b: &[f64]) -> bool
+    ensures { λ r. ⌜ r ≡ (answersAgree (testOf left (now (a .entry))) (testOf right (now (b .entry))) || samePlaces (now (a .entry)) (now (b .entry))) ⌝ }
+{
+    if is_scalar(a) {
+        if is_scalar(b) {
+            return equal_scalars(a, b);
+        }
         return false;
     }
-    let mut i: usize = 0;
-    while i < a.len() {
-        if !same_number(a[i], b[i]) {
-            return false;
-        }
-        i += 1;
-    }
-    true
+    !is_scalar(b)
 }
 
 // `==` as the reference has it: any two values that are not scalar are equal.
@@ -89,10 +64,9 @@ pub fn eq(left: Shape, right: Shape, a: &[f64], b: &[f64]) -> YesNo
             yes: false,
         };
     }
-    let agree = answers_agree(test_of(left, a), test_of(right, b));
     YesNo {
         number: DONE,
-        yes: agree || same_places(a, b),
+        yes: equal_values(left, right, a, b),
     }
 }
 
@@ -124,12 +98,12 @@ fn compare_numbers(x: f64, y: f64) -> Ordering
     compare_nan(x, y)
 }
 
-// The first place that differs decides.
-fn compare_places(a: &[f64], b: &[f64]) -> Ordering
+// The places from `first` on: the first that differs decides.
+fn compare_from(a: &[f64], b: &[f64], first: usize) -> Ordering
     requires { ⌜ length (now a) ≡ length (now b) ⌝ }
-    ensures { λ r. ⌜ r ≡ comparedPlaces (now (a .entry)) (now (b .entry)) ⌝ }
+    ensures { λ r. ⌜ r ≡ comparedPlaces (drop first (now (a .entry))) (drop first (now (b .entry))) ⌝ }
 {
-    let mut i: usize = 0;
+    let mut i = first;
     while i < a.len() {
         let o = compare_numbers(a[i], b[i]);
         match o {
@@ -142,39 +116,69 @@ fn compare_places(a: &[f64], b: &[f64]) -> Ordering
     Ordering::Equal
 }
 
-// By count, then by place.
-fn compare_lists(a: &[f64], b: &[f64]) -> Ordering
+// Whether the four numbers from place i on are equal.
+fn four_equal(a: &[f64], b: &[f64], i: usize) -> bool
+    requires { ⌜ (i + 4 ≤ length (now a)) × (length (now a) ≡ length (now b)) ⌝ }
+    ensures { λ r. ⌜ (r ≡ true → comparedPlaces (drop i (now (a .entry))) (drop i (now (b .entry))) ≡ comparedPlaces (drop (i + 4) (now (a .entry))) (drop (i + 4) (now (b .entry)))) ⌝ }
+{
+    (a[i] == b[i]) & (a[i + 1] == b[i + 1]) & (a[i + 2] == b[i + 2]) & (a[i + 3] == b[i + 3])
+}
+
+// The first place that differs decides; four that are equal are passed at a time.
+fn compare_by_fours(a: &[f64], b: &[f64]) -> Ordering
+    requires { ⌜ length (now a) ≡ length (now b) ⌝ }
+    ensures { λ r. ⌜ r ≡ comparedPlaces (now (a .entry)) (now (b .entry)) ⌝ }
+{
+    let mut i: usize = 0;
+    while i + 4 <= a.len() {
+        if !four_equal(a, b, i) {
+            return compare_from(a, b, i);
+        }
+        i += 4;
+    }
+    compare_from(a, b, i)
+}
+
+// The same, where place 0 is looked at first.
+fn compare_places(a: &[f64], b: &[f64]) -> Ordering
+    requires { ⌜ (0 < length (now a)) × (length (now a) ≡ length (now b)) ⌝ }
+    ensures { λ r. ⌜ r ≡ comparedPlaces (now (a .entry)) (now (b .entry)) ⌝ }
+{
+    if a[0] < b[0] {
+        return Ordering::Less;
+    }
+    if b[0] < a[0] {
+        return Ordering::Greater;
+    }
+    compare_by_fours(a, b)
+}
+
+// Values of two counts.
+fn compare_counts(a: &[f64], b: &[f64]) -> Ordering
+    requires { ⌜ (length (now a) ≡ length (now b) → ⊥) ⌝ }
     ensures { λ r. ⌜ r ≡ comparedLists (now (a .entry)) (now (b .entry)) ⌝ }
 {
     if a.len() < b.len() {
         return Ordering::Less;
     }
-    if b.len() < a.len() {
-        return Ordering::Greater;
-    }
-    compare_places(a, b)
+    Ordering::Greater
 }
 
-// A scalar x against the right value.
-fn compare_scalar(x: f64, u: ScalarTest, a: &[f64], b: &[f64]) -> Ordering
-    ensures { λ r. ⌜ r ≡ ifScalar u (comparedNumbers x) (comparedLists (now (a .entry)) (now (b .entry))) ⌝ }
+// The order of two values that are not refused. Where the counts are equal the first place that differs decides between scalars too.
+fn compare_values(left: Shape, right: Shape, a: &[f64], b: &[f64]) -> Ordering
+    requires { ⌜ (length (now a) ≡ 2 ^ (left .dims)) × (length (now b) ≡ 2 ^ (right .dims)) ⌝ }
+    ensures { λ r. ⌜ r ≡ comparedBy (testOf left (now (a .entry))) (testOf right (now (b .entry))) (now (a .entry)) (now (b .entry)) ⌝ }
 {
-    match u {
-        ScalarTest::Scalar(y) => compare_numbers(x, y),
-        ScalarTest::Planar(_) => compare_lists(a, b),
-        ScalarTest::Neither => compare_lists(a, b),
+    if a.len() == b.len() {
+        return compare_places(a, b);
     }
-}
-
-// The order of two values that are not refused.
-fn compare_values(t: ScalarTest, u: ScalarTest, a: &[f64], b: &[f64]) -> Ordering
-    ensures { λ r. ⌜ r ≡ comparedBy t u (now (a .entry)) (now (b .entry)) ⌝ }
-{
-    match t {
-        ScalarTest::Scalar(x) => compare_scalar(x, u, a, b),
-        ScalarTest::Planar(_) => compare_lists(a, b),
-        ScalarTest::Neither => compare_lists(a, b),
+    if !is_scalar(a) {
+        return compare_counts(a, b);
     }
+    if !is_scalar(b) {
+        return compare_counts(a, b);
+    }
+    compare_numbers(a[0], b[0])
 }
 
 // `cmp`: scalars by their numbers, NaN greatest; else by count, then by the first place that differs.
@@ -186,7 +190,7 @@ pub fn cmp(left: Shape, right: Shape, a: &[f64], b: &[f64]) -> Ordered
         let order = Ordering::Equal;
         return Ordered { number: no, order };
     }
-    let order = compare_values(test_of(left, a), test_of(right, b), a, b);
+    let order = compare_values(left, right, a, b);
     Ordered {
         number: DONE,
         order,

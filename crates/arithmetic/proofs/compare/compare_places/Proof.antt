@@ -1,112 +1,47 @@
--- `arithmetic::compare::compare_places` meets its contract. The invariant: the order of the whole is that of what is left. Assumes nothing.
-use mathlib.Core.Path.{_≡_, refl, sym, _∙_}
-use mathlib.Core.List.{List}
-use Prim.Native.Nat.{ℕ, _+_, _-_, _≤_, _<_}
-use native.Mathlib.Numerals.{add-one}
-use native.Mathlib.Omega.{arith}
-use lib.Ieee.{Float, nan}
-use lib.ListN.{length, getD, drop, drop-of-length-le}
-use lib.Seq.{drop-cons}
+-- `arithmetic::compare::compare_places` meets its contract: where place 0 does not decide, all places do. Assumes nothing.
+use mathlib.Core.Path.{sym}
 use borrow.Author.Needs.{needs}
-use Rattle.arithmetic.specs.declared.outcome.Ordering.{Ordering}
-use Rattle.arithmetic.specs.declared.outcome.Ordering.the-variants.{Equal}
-use Rattle.arithmetic.specs.Compare.{comparedNumbers, orElse, comparedPlaces}
+use Rattle.arithmetic.proofs.CompareLaws.{first-less, first-greater}
 use Rattle.arithmetic.proofs.compare.compare_places.Statement.{statement}
 use Rattle.arithmetic.proofs.compare.compare_places.Tie as tie
 
-module _ (a b : List Float) (i : ℕ) where
-  -- At place i the numbers compare as o does.
-  at-place : (o : Ordering) → i < length a → i < length b → comparedNumbers (getD a i nan) (getD b i nan) ≡ o → comparedPlaces (drop i a) (drop i b) ≡ orElse o (comparedPlaces (drop (i + 1) a) (drop (i + 1) b))
-  unfolding comparedPlaces
-  at-place o h k e = rw (drop-cons a i nan h, drop-cons b i nan k, e, add-one i)
+shared-slice-read-if1 : tie.Need-shared-slice-read-if1
+shared-slice-read-if1 c = search needs
 
-  at-end : length a ≤ i → comparedPlaces (drop i a) (drop i b) ≡ Equal
-  unfolding comparedPlaces
-  at-end h = rw (drop-of-length-le a h)
+shared-slice-read-if1-2 : tie.Need-shared-slice-read-if1-2
+shared-slice-read-if1-2 c = search needs
 
-abbrev Inv-loop : tie.InvT-loop
-Inv-loop a b i₀ i = comparedPlaces a b ≡ comparedPlaces (drop i a) (drop i b)
+returns : tie.Need-returns
+returns c =
+    let s = c .before .before .before .before .before in
+    sym (first-less (s .args .a .now) (s .args .b .now) (s .pre .0) (s .pre .1) (c .if1 .taken))
 
-abbrev μ-loop : tie.MeasureT-loop
-μ-loop a b i₀ i = length a - i
+shared-slice-read-if2 : tie.Need-shared-slice-read-if2
+shared-slice-read-if2 c = search needs
 
-loop-holds : tie.Need-loop-holds Inv-loop μ-loop
-loop-holds c = refl
+shared-slice-read-if2-2 : tie.Need-shared-slice-read-if2-2
+shared-slice-read-if2-2 c = search needs
 
-mul-compare-numbers : tie.Need-mul-compare-numbers Inv-loop μ-loop
-mul-compare-numbers c = search needs
+returns-2 : tie.Need-returns-2
+returns-2 c =
+    let s = c .before .before .before .before .before .before .before .before in
+    sym (first-greater (s .args .a .now) (s .args .b .now) (s .pre .0) (s .pre .1) (c .before .before .before .if1 .left) (c .if2 .taken))
 
-shared-slice-read-compare-numbers : tie.Need-shared-slice-read-compare-numbers Inv-loop μ-loop
-shared-slice-read-compare-numbers c = search needs
+compare-by-fours-requires : tie.Need-compare-by-fours-requires
+compare-by-fours-requires c κs = search needs
 
-mul-compare-numbers-2 : tie.Need-mul-compare-numbers-2 Inv-loop μ-loop
-mul-compare-numbers-2 c = search needs
-
-shared-slice-read-compare-numbers-2 : tie.Need-shared-slice-read-compare-numbers-2 Inv-loop μ-loop
-shared-slice-read-compare-numbers-2 c = search needs
-
-compare-numbers-requires : tie.Need-compare-numbers-requires Inv-loop μ-loop
-compare-numbers-requires c κs = search needs
-
-enum-told : tie.Need-enum-told Inv-loop μ-loop
-enum-told c = search needs
-
--- The whole compares as the numbers at i do, and then as what follows them.
-next : (c : tie.After-compare-numbers Inv-loop μ-loop) (o : Ordering) → c .compare-numbers .result ≡ o
-    → let l = c .before .before .before .before in
-    let a = l .before .before .before .args in
-    comparedPlaces (a .a .now) (a .b .now) ≡ orElse o (comparedPlaces (drop (l .loop .i + 1) (a .a .now)) (drop (l .loop .i + 1) (a .b .now)))
-next c o e =
-    let l = c .before .before .before .before in
-    let a = l .before .before .before .args in
-    l .loop .inv
-    ∙ at-place (a .a .now) (a .b .now) (l .loop .i) o (omega arith) (omega arith) (sym (c .compare-numbers .ensures) ∙ e)
-
-returns : tie.Need-returns Inv-loop μ-loop
-returns c = sym (next (c .before .before) _ (c .enum-told .given .1))
-
-enum-told-2 : tie.Need-enum-told-2 Inv-loop μ-loop
-enum-told-2 c = search needs
-
-enum-told-3 : tie.Need-enum-told-3 Inv-loop μ-loop
-enum-told-3 c = search needs
-
-returns-2 : tie.Need-returns-2 Inv-loop μ-loop
-returns-2 c = sym (next (c .before .before) _ (c .enum-told3 .given .1))
-
-add-i : tie.Need-add-i Inv-loop μ-loop
-add-i c = search needs
-
-loop-less : tie.Need-loop-less Inv-loop μ-loop
-loop-less c = search needs
-
-loop-again : tie.Need-loop-again Inv-loop μ-loop
-loop-again c = next (c .before .before) _ (c .enum-told2 .given .1)
-
-returns-3 : tie.Need-returns-3 Inv-loop μ-loop
-returns-3 c =
-    let l = c .before in
-    let a = l .before .before .before .args in
-    sym (l .loop .inv ∙ at-end (a .a .now) (a .b .now) (l .loop .i) (omega arith))
+returns-3 : tie.Need-returns-3
+returns-3 c = search needs
 
 pub compare-places-spec : {M : Type 1} → statement M
 compare-places-spec =
     tie.close
     (tie.spec
-    Inv-loop
-    μ-loop
-    loop-holds
-    mul-compare-numbers
-    shared-slice-read-compare-numbers
-    mul-compare-numbers-2
-    shared-slice-read-compare-numbers-2
-    compare-numbers-requires
-    enum-told
+    shared-slice-read-if1
+    shared-slice-read-if1-2
     returns
-    enum-told-2
-    enum-told-3
+    shared-slice-read-if2
+    shared-slice-read-if2-2
     returns-2
-    add-i
-    loop-less
-    loop-again
+    compare-by-fours-requires
     returns-3)
