@@ -11,4 +11,5 @@ pub mod PowerLaws
 pub mod AccuracyLaws
 pub mod AccuracyExamples
 pub mod CompareLaws
+pub mod MagnitudeLaws
 pub mod Lowest
