@@ -1,22 +1,22 @@
 -- `*`, `+` and `-`: what they give where they are not refused. Assumes nothing.
 use mathlib.Core.Path.{_≡_, refl, sym, ap, ap₂, _∙_, subst}
-use mathlib.Core.Bool.{Bool, true, false, _&&_, cond}
+use mathlib.Core.Bool.{Bool, true, false, not, _&&_, cond}
 use mathlib.Core.List.{List, [], _∷_}
-use Prim.Native.Nat.{ℕ, zero, suc, _+_, _^_, _≤_, max}
-use native.Mathlib.Nat.{add-zero, le-refl, max-eq-left, suc-inj}
+use Prim.Native.Nat.{ℕ, zero, suc, _+_, _^_, _≤_, _<_, max}
+use native.Mathlib.Nat.{add-zero, le-refl, max-eq-left, suc-inj, le-of-suc-le-suc, not-suc-le-zero}
 use native.Mathlib.Omega.{arith}
 use lib.Dec.{eqb}
 use lib.Ieee.{Float, nan, binary64}
 use lib.ListN.{length, getD, take, drop, length-append}
-use borrow.Author.Tests.{eq-eqb}
+use borrow.Author.Tests.{eq-eqb, eqb-true, not-true, not-false}
 use Rattle.masks.specs.declared.flavor.Flavor.{Flavor}
 use Rattle.masks.specs.declared.flavor.Flavor.the-variants.{Vanilla, Projective, Cl}
 use Rattle.masks.specs.declared.shape.Shape.{Shape}
 use Rattle.masks.specs.declared.outcome.Answer.{Answer}
-use Rattle.masks.specs.Outcome.{Outcome, Gives, refusal, unless, value, refusedValue, laid, resultTests, pairTests}
+use Rattle.masks.specs.Outcome.{Outcome, Gives, refusal, unless, value, refusedValue, laid, tooMany, wrongCount, noRoom, resultTests, pairTests}
 use Rattle.masks.specs.Shape.{promotes, conformed, conformedShape, conformTo, conform, bothTests, meetingDims}
 use Rattle.masks.proofs.ListLaws.{take-laid}
-use Rattle.masks.proofs.OutcomeLaws.{taken, unless-done, unless-refused, Passed, passed, passes, not-refused}
+use Rattle.masks.proofs.OutcomeLaws.{taken, unless-done, unless-refused, Passed, passed, passes, not-refused, later-same}
 use Rattle.masks.proofs.OrderLaws.{blades-le}
 use Rattle.masks.proofs.ShapeLaws.{resized-length, resized-same, conformed-none}
 use Rattle.product.specs.declared.mode.Mode.the-variants.{All}
@@ -31,9 +31,17 @@ use Rattle.arithmetic.specs.declared.scalar.ScalarTest.{ScalarTest}
 use Rattle.arithmetic.specs.declared.scalar.ScalarTest.the-variants.{Scalar, Planar, Neither}
 use Rattle.arithmetic.specs.Scalar.{isScalar, testOf, ifScalar}
 use Rattle.arithmetic.specs.Scale.{scaled}
-use Rattle.arithmetic.specs.Operators.{isOther, resultDims, operatorTests, withCoefs, multiplication, summedEach}
+use Rattle.arithmetic.specs.Operators.{isOther, joinedDims, resultDims, operatorTests, withCoefs, multiplication, summed, summedAt0, summedEach, summedPair, addition}
 use Rattle.arithmetic.proofs.KeptLaws.{Accepted, scaled-length}
-use Rattle.arithmetic.proofs.ScalarLaws.{if-scalar, if-other}
+use Rattle.arithmetic.proofs.ScalarLaws.{and-both, if-scalar, if-other}
+
+-- The tests, where it counts only for dimensions that are not refused whether the right is scalar.
+pub other-numbered : (s t : Shape) (other : Bool) (a b : List Float) (room : ℕ) → (t .dims ≤ 9 → other ≡ isOther t b) → refusal (pairTests (s .dims) (t .dims) (joinedDims s t other) (length a) (length b) room) ≡ refusal (operatorTests s t a b room)
+unfolding resultDims
+other-numbered s t other a b room h =
+    later-same (s .dims) _ _
+    (λ l. later-same (t .dims) _ _
+    (λ r. ap (λ (x : Bool). refusal (tooMany (joinedDims s t x) ∷ wrongCount (length a) (s .dims) ∷ wrongCount (length b) (t .dims) ∷ noRoom room (2 ^ joinedDims s t x) ∷ [])) (h r)))
 
 -- A refused product is a refused value.
 refused-once : (k : ℕ) (x : Counted) → x .outcome .number ≡ 0 → unless refusedValue (unless refusedProduct k x .outcome .number) (unless refusedProduct k x .outcome) ≡ unless refusedProduct k x .outcome
@@ -160,12 +168,41 @@ module _ (s t : Shape) (a b : List Float) (room : ℕ) where
       let q = subst (λ (n : ℕ). (n ≤ 9) × (2 ^ n ≤ room)) (dims-by-other (p .countedRight) e) (p .result, p .roomy) in
       conform-done s t a b room room (other-passes room z e (q .1)) ∙ sym (conform-done s t a b room 512 (other-passes 512 z e (blades-le (meetingDims s t) (q .0))))
 
+  -- Where `+` is not refused, it adds a scalar at place 0, and another value everywhere: the right side's buffer has room for any value.
+  module _ (op : Sum) (z : refusal (operatorTests s t a b room) ≡ 0) where
+    pub add-by-scalar : isScalar b ≡ true → addition op s t a b room ≡ withCoefs (summedAt0 op (getD b 0 nan)) (conformTo s t a room)
+    unfolding addition
+    add-by-scalar e = unless-done refusedValue (refusal (operatorTests s t a b room)) 0 _ (sym z) refl ∙ if-scalar t b _ _ e
+
+    pub add-by-other : isScalar b ≡ false → addition op s t a b room ≡ summedPair op (conform s t a b room 512)
+    unfolding addition
+    add-by-other e = unless-done refusedValue (refusal (operatorTests s t a b room)) 0 _ (sym z) refl ∙ if-other t b _ _ e ∙ ap (summedPair op) (conform-other z e)
+
+  -- Of a value that is not refused `isOther` says whether it is not scalar.
+  module _ (other : Bool) (h : t .dims ≤ 9 → other ≡ isOther t b) (z : refusal (operatorTests s t a b room) ≡ 0) where
+    other-is : other ≡ not (isScalar b)
+    unfolding isOther
+    other-is = let p = operator-passed z in h (p .smallRight) ∙ rw (eq-eqb (length b) (2 ^ t .dims) (p .countedRight))
+
+    pub was-other : other ≡ true → isScalar b ≡ false
+    was-other e = not-true (isScalar b) (sym other-is ∙ e)
+
+    pub was-scalar : other ≡ false → isScalar b ≡ true
+    was-scalar e = not-false (isScalar b) (sym other-is ∙ e)
+
 -- Sums have the places of their numbers.
 pub each-length : (op : Sum) (a b : List Float) → length a ≡ length b → length (summedEach op a b) ≡ length a
 unfolding summedEach
 each-length op [] b e = refl
 each-length op (x ∷ a) [] e = absurd (omega arith)
 each-length op (x ∷ a) (y ∷ b) e = ap suc (each-length op a b (suc-inj e))
+
+pub each-at : (op : Sum) (a b : List Float) (k : ℕ) → k < length a → k < length b → getD (summedEach op a b) k nan ≡ summed op (getD a k nan) (getD b k nan)
+unfolding summedEach
+each-at op [] b k h g = absurd (not-suc-le-zero h)
+each-at op (x ∷ a) [] k h g = absurd (not-suc-le-zero g)
+each-at op (x ∷ a) (y ∷ b) zero h g = refl
+each-at op (x ∷ a) (y ∷ b) (suc k) h g = each-at op a b k (le-of-suc-le-suc h) (le-of-suc-le-suc g)
 
 -- ---- the left side, conformed and then changed
 
@@ -239,6 +276,40 @@ dims-same s b = rw (promotes-same (s .flavor)) (go (isOther s b))
 -- A value at its own dimensions is as it stands.
 conformed-kept : (d : ℕ) (a : List Float) → d ≤ 9 → length a ≡ 2 ^ d → conformed 0 d d a ≡ a
 conformed-kept d a h l = sym (conformed-none 0 d d a refl) ∙ resized-same d a h l
+
+-- Values that agree, of one number of dimensions and no flavor promoted, are added as they stand.
+module _ (op : Sum) (s t : Shape) (a b : List Float) (room : ℕ) (agree : (eqb (s .dims) (t .dims) && eqb (promotes (s .flavor) (t .flavor) + promotes (t .flavor) (s .flavor)) 0) ≡ true)
+    (z : refusal (pairTests (s .dims) (t .dims) (meetingDims s t) (length a) (length b) room) ≡ 0) where
+  agreed : Passed (s .dims) (t .dims) (meetingDims s t) (length a) (length b) room
+  agreed = passed (s .dims) (t .dims) (meetingDims s t) (length a) (length b) room z
+
+  pub agreed-dims : s .dims ≡ t .dims
+  agreed-dims = eqb-true (s .dims) (t .dims) (and-both _ _ agree .0)
+
+  pub agreed-counts : length a ≡ length b
+  agreed-counts = agreed .counted ∙ ap (λ (n : ℕ). 2 ^ n) agreed-dims ∙ sym (agreed .countedRight)
+
+  unpromoted : (promotes (s .flavor) (t .flavor) ≡ 0) × (promotes (t .flavor) (s .flavor) ≡ 0)
+  unpromoted = let e = eqb-true (promotes (s .flavor) (t .flavor) + promotes (t .flavor) (s .flavor)) 0 (and-both (eqb (s .dims) (t .dims)) _ agree .1) in (omega arith, omega arith)
+
+  agreed-meet : meetingDims s t ≡ s .dims
+  agreed-meet = rw (unpromoted .0, unpromoted .1, ← agreed-dims, add-zero (s .dims), max-eq-left (le-refl (s .dims)))
+
+  pub agreed-room : length a ≤ room
+  agreed-room = let e : 2 ^ meetingDims s t ≡ 2 ^ s .dims = ap (λ (n : ℕ). 2 ^ n) agreed-meet in omega (arith, agreed .roomy, agreed .counted)
+
+  abbrev sumAt : ℕ → ℕ → ℕ → Outcome
+  sumAt u v n = value (conformedShape u s n) (summedEach op (conformed u (s .dims) n a) (conformed v (t .dims) n b))
+
+  pub agreed-sum : summedPair op (conform s t a b room 512) ≡ value s (summedEach op a b)
+  unfolding conformedShape
+  agreed-sum =
+      ap (summedPair op) (conform-done s t a b room 512 (second-accepted (s .dims) (t .dims) (meetingDims s t) (length a) (length b) room 512 z (blades-le (meetingDims s t) (agreed .result))))
+      ∙ ap₂ (λ (u v : ℕ). sumAt u v (meetingDims s t)) (unpromoted .0) (unpromoted .1)
+      ∙ ap (sumAt 0 0) agreed-meet
+      ∙ ap₂ (λ (x y : List Float). value s (summedEach op x y))
+      (conformed-kept (s .dims) a (agreed .small) (agreed .counted))
+      (ap (λ (n : ℕ). conformed 0 (t .dims) n b) agreed-dims ∙ conformed-kept (t .dims) b (agreed .smallRight) (agreed .countedRight))
 
 -- Values of one shape are multiplied as they stand, whatever the room.
 pub multiply-same : (s : Shape) (a b : List Float) (room : ℕ) → Accepted s a room → length b ≡ 2 ^ s .dims

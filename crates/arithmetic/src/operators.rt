@@ -14,10 +14,12 @@ use masks::shape::Shape;
 use masks::shape::promotion;
 use product::products::general_product;
 ghost use mathlib.Core.Path.{_≡_};
-ghost use Prim.Native.Nat.{_≤_};
+ghost use mathlib.Core.Bool.{true, _&&_};
+ghost use Prim.Native.Nat.{_+_, _≤_};
+ghost use lib.Dec.{eqb};
 ghost use lib.ListN.{length, take};
 ghost use Rattle.masks.specs.Outcome.{Gives, laid, refusal, pairTests};
-ghost use Rattle.masks.specs.Shape.{conformTo, conform};
+ghost use Rattle.masks.specs.Shape.{promotes, conformTo, conform};
 ghost use Rattle.product.specs.Products.{generalProduct};
 ghost use Rattle.arithmetic.specs.declared.operators.Sum.the-variants.{Plus, Minus};
 ghost use Rattle.arithmetic.specs.Scale.{scaled};
@@ -167,20 +169,52 @@ fn add_other(op: Sum, left: Shape, right: Shape, a: &[f64], b: &[f64], out: &mut
     done(shape)
 }
 
+// Whether two values conform as they stand.
+fn agree(left: Shape, right: Shape) -> bool
+    ensures { λ r. ⌜ r ≡ (eqb (left .dims) (right .dims) && eqb (promotes (left .flavor) (right .flavor) + promotes (right .flavor) (left .flavor)) 0) ⌝ }
+{
+    let own = left.flavor;
+    let theirs = right.flavor;
+    left.dims == right.dims && promotion(own, theirs) + promotion(theirs, own) == 0
+}
+
+// The sums of two values of one count, from where they lie.
+fn put_sums(op: Sum, a: &[f64], b: &[f64], out: &mut [f64])
+    requires { ⌜ (length (now a) ≡ length (now b)) × (length (now a) ≤ length (now out)) ⌝ }
+    ensures { λ _. ⌜ now (out .exit) ≡ laid (summedEach op (now (a .entry)) (now (b .entry))) (now (out .entry)) ⌝ }
+{
+    let mut i: usize = 0;
+    while i < a.len() {
+        out[i] = sum_of(op, a[i], b[i]);
+        i += 1;
+    }
+}
+
+// Two values that are not refused: from where they lie if they agree, else conformed.
+fn add_each(op: Sum, left: Shape, right: Shape, a: &[f64], b: &[f64], out: &mut [f64]) -> Answer
+    requires { ⌜ refusal (pairTests (left .dims) (right .dims) (joinedDims left right true) (length (now a)) (length (now b)) (length (now out))) ≡ 0 ⌝ }
+    ensures { λ r. ⌜ Gives (summedPair op (conform left right (now (a .entry)) (now (b .entry)) (length (now (out .entry))) 512)) r (now (out .entry)) (now (out .exit)) ⌝ }
+{
+    if !agree(left, right) {
+        return add_other(op, left, right, a, b, out);
+    }
+    put_sums(op, a, b, out);
+    done(left)
+}
+
 // `+` or `-`: by a scalar on the right at place 0; else everywhere.
 fn add_values(op: Sum, left: Shape, right: Shape, a: &[f64], b: &[f64], out: &mut [f64]) -> Answer
     ensures { λ r. ⌜ Gives (addition op left right (now (a .entry)) (now (b .entry)) (length (now (out .entry)))) r (now (out .entry)) (now (out .exit)) ⌝ }
 {
-    let no = operator_refusal(left, right, a, b, out.len());
+    let other = is_other(right, b);
+    let no = joined_refusal(left, right, other, a, b, out.len());
     if no != DONE {
         return refused(no);
     }
-    let kind = test_of(right, b);
-    match kind {
-        ScalarTest::Scalar(f) => add_scalar(op, left, right, f, a, out),
-        ScalarTest::Planar(_) => add_other(op, left, right, a, b, out),
-        ScalarTest::Neither => add_other(op, left, right, a, b, out),
+    if other {
+        return add_each(op, left, right, a, b, out);
     }
+    add_scalar(op, left, right, b[0], a, out)
 }
 
 // `+` of two values.

@@ -1,123 +1,102 @@
 -- `arithmetic::operators::add_values` meets its contract: refused, or done as the scalar test says. Assumes nothing.
-use mathlib.Core.Path.{_≡_, refl, sym, ap, _∙_}
+use mathlib.Core.Path.{_≡_, sym, ap, _∙_}
 use mathlib.Core.Bool.{Bool, true, false}
-use mathlib.Core.List.{List}
-use Prim.Native.Nat.{ℕ}
-use lib.Ieee.{Float}
-use lib.ListN.{length}
-use Rattle.masks.specs.declared.shape.Shape.{Shape}
-use Rattle.masks.specs.declared.outcome.Answer.{Answer}
-use Rattle.masks.specs.Outcome.{Outcome, Gives, refusal}
+use native.Mathlib.Omega.{arith}
+use borrow.Author.Needs.{needs}
+use lib.Ieee.{nan}
+use lib.ListN.{length, getD}
+use lib.Pow.{pow-pos}
+use Rattle.masks.specs.Outcome.{refusal, pairTests}
 use Rattle.masks.specs.Shape.{conformTo, conform}
 use Rattle.masks.proofs.OutcomeLaws.{gives-refused}
-use Rattle.arithmetic.specs.declared.operators.Sum.{Sum}
-use Rattle.arithmetic.specs.declared.scalar.ScalarTest.{ScalarTest}
-use Rattle.arithmetic.specs.declared.scalar.ScalarTest.the-variants.{Scalar, Planar, Neither}
-use Rattle.arithmetic.specs.Scalar.{isScalar, testOf, ifScalar}
-use Rattle.arithmetic.specs.Operators.{operatorTests, withCoefs, summedAt0, summedPair, addition}
-use Rattle.arithmetic.proofs.ScalarLaws.{if-scalar, if-other}
-use Rattle.arithmetic.proofs.OperatorsLaws.{operator-passed, by-test, conform-other}
-use borrow.Author.Needs.{needs}
+use Rattle.arithmetic.specs.Operators.{joinedDims, operatorTests, withCoefs, summedAt0, summedPair, addition}
+use Rattle.arithmetic.proofs.OperatorsLaws.{other-numbered, operator-passed, add-by-scalar, add-by-other, was-other, was-scalar}
 use Rattle.arithmetic.proofs.operators.add_values.Statement.{statement}
 use Rattle.arithmetic.proofs.operators.add_values.Tie as tie
 
-operator-refusal-requires : tie.Need-operator-refusal-requires
-operator-refusal-requires c κs = search needs
+is-other-requires : tie.Need-is-other-requires
+is-other-requires c κs = search needs
+
+joined-refusal-requires : tie.Need-joined-refusal-requires
+joined-refusal-requires c κs = search needs
 
 refused-requires : tie.Need-refused-requires
 refused-requires c κs = search needs
 
+-- The number that is found, where it does not count for refused dimensions whether the right is scalar.
+module _ (j : tie.After-joined-refusal) where
+  abbrev start : tie.Start
+  start = j .before .before .before .before .before
+
+  numbered : j .joined-refusal .result ≡ refusal (operatorTests (start .args .left) (start .args .right) (start .args .a .now) (start .args .b .now) (length (start .args .out .now)))
+  numbered =
+      j .joined-refusal .ensures
+      ∙ other-numbered (start .args .left) (start .args .right) (j .before .is-other .result) (start .args .a .now) (start .args .b .now) (length (start .args .out .now)) (j .before .is-other .ensures)
+
+  module _ (z : j .joined-refusal .result ≡ 0) where
+    unrefused : refusal (operatorTests (start .args .left) (start .args .right) (start .args .a .now) (start .args .b .now) (length (start .args .out .now))) ≡ 0
+    unrefused = sym numbered ∙ z
+
+    by-other : j .before .is-other .result ≡ true
+        → addition (start .args .op) (start .args .left) (start .args .right) (start .args .a .now) (start .args .b .now) (length (start .args .out .now)) ≡ summedPair (start .args .op) (conform (start .args .left) (start .args .right) (start .args .a .now) (start .args .b .now) (length (start .args .out .now)) 512)
+    by-other e =
+        add-by-other (start .args .left) (start .args .right) (start .args .a .now) (start .args .b .now) (length (start .args .out .now)) (start .args .op) unrefused
+        (was-other (start .args .left) (start .args .right) (start .args .a .now) (start .args .b .now) (length (start .args .out .now)) (j .before .is-other .result) (j .before .is-other .ensures) unrefused e)
+
+    by-scalar : j .before .is-other .result ≡ false
+        → addition (start .args .op) (start .args .left) (start .args .right) (start .args .a .now) (start .args .b .now) (length (start .args .out .now)) ≡ withCoefs (summedAt0 (start .args .op) (getD (start .args .b .now) 0 nan)) (conformTo (start .args .left) (start .args .right) (start .args .a .now) (length (start .args .out .now)))
+    by-scalar e =
+        add-by-scalar (start .args .left) (start .args .right) (start .args .a .now) (start .args .b .now) (length (start .args .out .now)) (start .args .op) unrefused
+        (was-scalar (start .args .left) (start .args .right) (start .args .a .now) (start .args .b .now) (length (start .args .out .now)) (j .before .is-other .result) (j .before .is-other .ensures) unrefused e)
+
 returns : tie.Need-returns
 unfolding addition
-returns c = gives-refused _ _ _ _ _ (c .before .before .operator-refusal .ensures) (c .before .if1 .taken) (c .refused .ensures)
+returns c = gives-refused _ _ _ _ _ (numbered (c .before .before)) (c .before .if1 .taken) (c .refused .ensures)
 
--- What is done where it is not refused: the right side's buffer has room for any value.
-module _ (op : Sum) (s t : Shape) (a b : List Float) (room : ℕ) (z : refusal (operatorTests s t a b room) ≡ 0) where
-  abbrev at0 : Float → Outcome
-  at0 f = withCoefs (summedAt0 op f) (conformTo s t a room)
-
-  buffered : (x : Bool) → isScalar b ≡ x → ifScalar (testOf t b) at0 (summedPair op (conform s t a b room room)) ≡ ifScalar (testOf t b) at0 (summedPair op (conform s t a b room 512))
-  buffered true e = if-scalar t b _ _ e ∙ sym (if-scalar t b _ _ e)
-  buffered false e = if-other t b _ _ e ∙ ap (summedPair op) (conform-other s t a b room z e) ∙ sym (if-other t b _ _ e)
-
-  by : (T : ScalarTest) (r : Answer) (before after : List Float) → testOf t b ≡ T → Gives (ifScalar T at0 (summedPair op (conform s t a b room 512))) r before after → Gives (addition op s t a b room) r before after
-  unfolding addition
-  by T r before after e g =
-      rw (by-test s t a b room (testOf t b) at0 (summedPair op (conform s t a b room room)) z refl, buffered (isScalar b) refl, e) g
-
-unrefused : (c : tie.Else1) → let a = c .before .before .before .before .before .args in refusal (operatorTests (a .left) (a .right) (a .a .now) (a .b .now) (length (a .out .now))) ≡ 0
-unrefused c = sym (c .before .operator-refusal .ensures) ∙ c .if1 .left
-
-test-of-requires : tie.Need-test-of-requires
-test-of-requires c κs =
-    let a = c .before .before .before .before .before .args in
-    operator-passed (a .left) (a .right) (a .a .now) (a .b .now) (length (a .out .now)) (unrefused c) .countedRight
-
-enum-known-kind : tie.Need-enum-known-kind
-enum-known-kind c = search needs
-
-add-scalar-requires : tie.Need-add-scalar-requires
-add-scalar-requires c κs = search needs
-
-enum-told : tie.Need-enum-told
-enum-told c = search needs
-
-add-other-requires : tie.Need-add-other-requires
-add-other-requires c κs = search needs
-
-enum-told-2 : tie.Need-enum-told-2
-enum-told-2 c = search needs
-
-add-other-requires-2 : tie.Need-add-other-requires-2
-add-other-requires-2 c κs = search needs
+add-each-requires : tie.Need-add-each-requires
+add-each-requires c κs =
+    let j = c .before .before .before in
+    let a = start j .args in
+    ap (λ (x : Bool). refusal (pairTests (a .left .dims) (a .right .dims) (joinedDims (a .left) (a .right) x) (length (a .a .now)) (length (a .b .now)) (length (a .out .now)))) (sym (c .before .if2 .taken))
+    ∙ sym (j .joined-refusal .ensures) ∙ c .before .before .if1 .left
 
 same-length : tie.Need-same-length
 same-length c = search needs
 
 returns-2 : tie.Need-returns-2
-unfolding ifScalar
 returns-2 c =
-    let t = c .before .before .before .before .before in
-    let q = t .before .before in
-    by _ _ _ _ _ _ (unrefused (q .before)) (Scalar (t .kind .given .0 .0)) (c .before .before .add-scalar .result) _ _ (sym (q .test-of .ensures) ∙ t .kind .given .1) (c .before .before .add-scalar .ensures)
+    let t = c .before .before .before .before in
+    rw (by-other (t .before .before) (t .before .if1 .left) (t .if2 .taken)) (c .before .before .add-each .ensures)
+
+shared-slice-read-add-scalar : tie.Need-shared-slice-read-add-scalar
+shared-slice-read-add-scalar c =
+    let j = c .before .before .before in
+    let a = start j .args in
+    omega (arith, operator-passed (a .left) (a .right) (a .a .now) (a .b .now) (length (a .out .now)) (unrefused j (c .before .before .if1 .left)) .countedRight, pow-pos (a .right .dims))
+
+add-scalar-requires : tie.Need-add-scalar-requires
+add-scalar-requires c κs = search needs
 
 same-length-2 : tie.Need-same-length-2
 same-length-2 c = search needs
 
 returns-3 : tie.Need-returns-3
-unfolding ifScalar
 returns-3 c =
-    let t = c .before .before .before .before in
-    let q = t .before .before in
-    by _ _ _ _ _ _ (unrefused (q .before)) (Planar (t .enum-told .given .0 .0)) (c .before .before .add-other .result) _ _ (sym (q .test-of .ensures) ∙ t .enum-told .given .1) (c .before .before .add-other .ensures)
-
-same-length-3 : tie.Need-same-length-3
-same-length-3 c = search needs
-
-returns-4 : tie.Need-returns-4
-unfolding ifScalar
-returns-4 c =
-    let t = c .before .before .before .before in
-    let q = t .before .before in
-    by _ _ _ _ _ _ (unrefused (q .before)) Neither (c .before .before .add-other2 .result) _ _ (sym (q .test-of .ensures) ∙ t .enum-told2 .given .1) (c .before .before .add-other2 .ensures)
+    let t = c .before .before .before .before .before in
+    rw (by-scalar (t .before .before) (t .before .if1 .left) (t .if2 .left)) (c .before .before .add-scalar .ensures)
 
 pub add-values-spec : {M : Type 1} → statement M
 add-values-spec =
     tie.close
     (tie.spec
-    operator-refusal-requires
+    is-other-requires
+    joined-refusal-requires
     refused-requires
     returns
-    test-of-requires
-    enum-known-kind
-    add-scalar-requires
-    enum-told
-    add-other-requires
-    enum-told-2
-    add-other-requires-2
+    add-each-requires
     same-length
     returns-2
+    shared-slice-read-add-scalar
+    add-scalar-requires
     same-length-2
-    returns-3
-    same-length-3
-    returns-4)
+    returns-3)

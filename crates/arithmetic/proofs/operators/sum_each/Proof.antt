@@ -1,8 +1,7 @@
 -- `arithmetic::operators::sum_each` meets its contract. The invariant: the first k sums are written. Assumes nothing.
 use mathlib.Core.Path.{_≡_, refl, sym, ap, _∙_}
-use mathlib.Core.List.{List, [], _∷_}
-use Prim.Native.Nat.{ℕ, zero, suc, _+_, _-_, _≤_, _<_}
-use native.Mathlib.Nat.{le-of-suc-le-suc, not-suc-le-zero}
+use mathlib.Core.List.{List}
+use Prim.Native.Nat.{ℕ, _+_, _-_, _≤_, _<_}
 use native.Mathlib.Omega.{arith}
 use lib.Ieee.{Float, nan}
 use lib.ListN.{length, getD, set, take}
@@ -11,16 +10,9 @@ use Rattle.masks.proofs.ListLaws.{front, front-length, front-step, front-all}
 use Rattle.product.proofs.ListLaws.{front-next}
 use Rattle.arithmetic.specs.declared.operators.Sum.{Sum}
 use Rattle.arithmetic.specs.Operators.{summed, summedEach}
-use Rattle.arithmetic.proofs.OperatorsLaws.{each-length}
+use Rattle.arithmetic.proofs.OperatorsLaws.{each-length, each-at}
 use Rattle.arithmetic.proofs.operators.sum_each.Statement.{statement}
 use Rattle.arithmetic.proofs.operators.sum_each.Tie as tie
-
-each-at : (op : Sum) (a b : List Float) (k : ℕ) → k < length a → k < length b → getD (summedEach op a b) k nan ≡ summed op (getD a k nan) (getD b k nan)
-unfolding summedEach
-each-at op [] b k h g = absurd (not-suc-le-zero h)
-each-at op (x ∷ a) [] k h g = absurd (not-suc-le-zero g)
-each-at op (x ∷ a) (y ∷ b) zero h g = refl
-each-at op (x ∷ a) (y ∷ b) (suc k) h g = each-at op a b k (le-of-suc-le-suc h) (le-of-suc-le-suc g)
 
 -- ---- The sums of the numbers at the front with those of b.
 abbrev sums : Sum → List Float → List Float → List Float
