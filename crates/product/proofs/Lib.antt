@@ -6,6 +6,7 @@ pub mod PairwiseNegated
 pub mod PairsTotal
 pub mod PairwiseLaws
 pub mod ProductsLaws
+pub mod ProductsGiven
 pub mod ProductsConformed
 pub mod AccuracyLaws
 pub mod AccuracyGrouping
@@ -17,10 +18,15 @@ pub mod ReverseLaws
 pub mod AccuracyUnits
 pub mod AccuracyExamples
 pub mod ListLaws
-pub mod PairwiseSums
 pub mod Table
 pub mod Lowest
 pub mod ProductsRefusals
 pub mod MetricLaws
 pub mod PairsBounds
 pub mod Subsets
+pub mod SumsMasks
+pub mod SumsPairs
+pub mod SumsTests
+pub mod SumsPlaces
+pub mod GivenLaws
+pub mod SumsLaws

@@ -6,12 +6,12 @@ use mathlib.Core.Logic.{_≢_, inl, inr, ⊎-elim}
 use Prim.Native.Nat.{ℕ, zero, suc, _+_, _*_, _/_, _%_, _^_, _<_, _≤_}
 use native.Mathlib.Omega.{arith}
 use native.Mathlib.Nat.{mod-lt, zero-lt-suc, lt-of-lt-of-le, lt-of-le-of-lt}
-use lib.Dec.{eqb, lit<, lit≤}
+use lib.Dec.{eqb, ltb, lit<, lit≤}
 use lib.Pow.{pow-pos, pow-mono}
 use lib.Bits.{bitAnd, bitXor, and-le-l, xor-lt}
 use lib.Count.{ones}
 use lib.IntN.{ℤ, pos, negsuc, _*ℤ_, pow, one}
-use borrow.Author.Tests.{not-false}
+use borrow.Author.Tests.{not-false, eqb-true, eqb-false, ltb-true, lt-ltb}
 use Rattle.clifford.specs.Blade.{Blade, has, _⊻_, _⊕_, count}
 use Rattle.clifford.specs.Sign.{sign}
 use Rattle.clifford.specs.Metric.{swaps, shared, turned, metric}
@@ -23,6 +23,7 @@ use Rattle.clifford.proofs.SignLaws.{sign-even, sign-odd, sign-add}
 use Rattle.clifford.proofs.PairsLaws.{nonzero-metric}
 use Rattle.clifford.proofs.Counting.{every, every-at}
 use Rattle.masks.specs.declared.flavor.Flavor.{Flavor}
+use Rattle.masks.specs.declared.flavor.Flavor.the-variants.{Cl}
 use Rattle.masks.specs.Flavor.{metricOf}
 use Rattle.masks.proofs.ListLaws.{split}
 use Rattle.product.specs.declared.mode.Mode.{Mode}
@@ -30,7 +31,7 @@ use Rattle.product.specs.declared.metric.Squares.{Squares}
 use Rattle.product.specs.declared.metric.Blade as Declared
 use Rattle.product.specs.Mode.{takes, flavorFor, pairMetric}
 use Rattle.product.specs.inner.Pairwise.{negative}
-use Rattle.product.specs.inner.Metric.{maskOf, squaresBelow, withSquare, oddBelow, bladeOf, turnedOne, turns}
+use Rattle.product.specs.inner.Metric.{maskOf, squaresBelow, oddBelow, bladeOf, turns}
 use Rattle.product.proofs.MetricSigns.{Unital, unital-flavor}
 
 -- 1 for a test that passes.
@@ -81,17 +82,31 @@ mask-has (suc n) t (suc i) h =
     half true m = omega arith
     half false m = omega arith
 
--- One basis vector more adds its bit.
-pub square-more : (i : ℕ) (f : Flavor) → withSquare (squaresBelow i f) (metricOf f i) (2 ^ i) ≡ squaresBelow (suc i) f
-unfolding withSquare squaresBelow maskOf
-square-more i f =
-    let zeros = maskOf i (λ j. not (nonzero (metricOf f j))) in
-    let minuses = maskOf (suc i) (λ j. negative (metricOf f j)) in
-    ap (λ (n : ℕ). record { null = zeros + n; minus = minuses }) (go (nonzero (metricOf f i)))
+mask-ext : (n : ℕ) (t u : ℕ → Bool) → ((i : ℕ) → i < n → t i ≡ u i) → maskOf n t ≡ maskOf n u
+unfolding maskOf
+mask-ext zero t u h = refl
+mask-ext (suc n) t u h = ap₂ (λ (m : ℕ) (x : Bool). m + cond x (2 ^ n) 0) (mask-ext n t u (λ i l. h i (omega arith))) (h n (omega arith))
+
+-- The vectors of a Clifford flavor: the first z square to 0, the next n to -1.
+pub squares-cl : (p n z : ℕ) → record { null = maskOf 9 (λ i. ltb i z); minus = bitXor (maskOf 9 (λ i. ltb i (z + n))) (maskOf 9 (λ i. ltb i z)) } ≡ squaresBelow 9 (Cl p n z)
+unfolding squaresBelow metricOf
+squares-cl p n z =
+    ap₂ (λ (x y : ℕ). record { null = x; minus = y }) (mask-ext 9 _ _ (λ i l. null-at (ltb i z) (ltb i (z + n))))
+    (has-ext 9 _ _ (xor-lt 9 _ _ (mask-lt 9 _) (mask-lt 9 _)) (mask-lt 9 _)
+    (λ i l. ap (λ (v : ℕ → Bool). v i) (has-xor _ _) ∙ ap₂ (λ x y. x ⊻ y) (mask-has 9 _ i l) (mask-has 9 _ i l) ∙ go i (ltb i z) refl ∙ sym (mask-has 9 _ i l)))
   where
-    go : (x : Bool) → cond x 0 (2 ^ i) ≡ cond (not x) (2 ^ i) 0
-    go true = refl
-    go false = refl
+    null-at : (x y : Bool) → x ≡ not (nonzero (cond x (pos 0) (cond y (negsuc 0) (pos 1))))
+    null-at true y = refl
+    null-at false true = refl
+    null-at false false = refl
+
+    minus-at : (y : Bool) → y ⊻ false ≡ negative (cond y (negsuc 0) (pos 1))
+    minus-at true = refl
+    minus-at false = refl
+
+    go : (i : ℕ) (x : Bool) → ltb i z ≡ x → ltb i (z + n) ⊻ ltb i z ≡ negative (cond (ltb i z) (pos 0) (cond (ltb i (z + n)) (negsuc 0) (pos 1)))
+    go i true e = rw (e, lt-ltb i (z + n) (omega (arith, ltb-true i z e)))
+    go i false e = rw e (minus-at (ltb i (z + n)))
 
 -- ---- signs of counts
 
@@ -203,13 +218,6 @@ turns-lt : (d a b : ℕ) → turns d a b < 512
 unfolding turns
 turns-lt d a b = lt-of-lt-of-le (mod-lt (turned d a + turned d b + turned d (bitXor a b)) (zero-lt-suc 1)) (lit≤ tt)
 
-pub turned-one-le : (m : ℕ) → turnedOne m ≤ 1
-turned-one-le m = go (eqb m 5)
-  where
-    go : (x : Bool) → bit x ≤ 1
-    go true = omega arith
-    go false = omega arith
-
 module _ (f : Flavor) (d a b : ℕ) (l : d ≤ 9) (ha : a < 2 ^ d) where
   abbrev s : Squares
   s = squaresBelow 9 f
@@ -291,3 +299,68 @@ module _ (mode : Mode) (f : Flavor) (d a : ℕ) (b : Declared.Blade) (h : a < 2 
   pair-sign z =
       rw t (by-ones (flavorFor mode f) d a (b .mask) (dims-le d room) h (sym (ap (λ v. bitAnd a (v .null)) e) ∙ z))
       ∙ sym (ap (λ v. sign (ones (bitXor (bitAnd a (v .flips)) (turns d a (b .mask))))) e)
+
+-- ---- the same as tests
+
+sign-nonzero : (k : ℕ) → nonzero (sign k) ≡ true
+unfolding sign pow one
+sign-nonzero k = ap nonzero (sign-parity k) ∙ go (odd k)
+  where
+    go : (x : Bool) → nonzero (sign (bit x)) ≡ true
+    go true = refl
+    go false = refl
+
+sign-negative : (x : Bool) → negative (sign (bit x)) ≡ x
+unfolding sign pow one
+sign-negative true = refl
+sign-negative false = refl
+
+-- The mask 101 in three dimensions.
+abbrev pub isTurned : ℕ → ℕ → Bool
+isTurned d m = eqb d 3 && eqb m 5
+
+turned-sign : (d a b : ℕ) → sign (ones (turns d a b)) ≡ sign (bit (isTurned d a ⊻ isTurned d b ⊻ isTurned d (bitXor a b)))
+unfolding turned
+turned-sign d a b = sign-turns d a b ∙ go (isTurned d a) (isTurned d b) (isTurned d (bitXor a b))
+  where
+    go : (x y z : Bool) → sign (bit x + bit y + bit z) ≡ sign (bit (x ⊻ y ⊻ z))
+    go x y z =
+        sign-add (bit x + bit y) (bit z) ∙ ap (λ s. s *ℤ sign (bit z)) (sign-add (bit x) (bit y) ∙ sym (sign-differ x y))
+        ∙ sym (sign-differ (x ⊻ y) z)
+
+module _ (mode : Mode) (f : Flavor) (d a b : ℕ) (h : a < 2 ^ d) (l : d ≤ 9) where
+  abbrev bladeFor : Declared.Blade
+  bladeFor = bladeOf (squaresBelow 9 (flavorFor mode f)) b
+
+  -- A pair counts where the mode takes it and it shares no null vector.
+  pub pair-live : nonzero (pairMetric mode f d a b) ≡ (takes mode a b && eqb (bitAnd a (bladeFor .null)) 0)
+  unfolding bladeOf
+  pair-live = go (takes mode a b) refl (eqb (bitAnd a (bladeFor .null)) 0) refl
+    where
+      go : (x : Bool) → takes mode a b ≡ x → (y : Bool) → eqb (bitAnd a (bladeFor .null)) 0 ≡ y → nonzero (pairMetric mode f d a b) ≡ (x && y)
+      go false t y e = ap nonzero (pair-untaken mode f d a b t)
+      go true t true e = ap nonzero (pair-sign mode f d a bladeFor h (pow-mono l) t refl (eqb-true _ _ e)) ∙ sign-nonzero _
+      go true t false e = ap nonzero (pair-null mode f d a bladeFor h (pow-mono l) t refl (eqb-false _ _ e))
+
+  -- Its metric is then -1 where an odd number of a's vectors and of the turned masks change the sign.
+  pub pair-minus : (takes mode a b && eqb (bitAnd a (bladeFor .null)) 0) ≡ true
+      → negative (pairMetric mode f d a b) ≡ odd (ones (bitAnd a (bladeFor .flips))) ⊻ (isTurned d a ⊻ isTurned d b ⊻ isTurned d (bitXor a b))
+  unfolding bladeOf
+  pair-minus = go (takes mode a b) refl (eqb (bitAnd a (bladeFor .null)) 0) refl
+    where
+      flips : ℕ
+      flips = bitAnd a (bladeFor .flips)
+
+      turning : Bool
+      turning = isTurned d a ⊻ isTurned d b ⊻ isTurned d (bitXor a b)
+
+      go : (x : Bool) → takes mode a b ≡ x → (y : Bool) → eqb (bitAnd a (bladeFor .null)) 0 ≡ y → (x && y) ≡ true → negative (pairMetric mode f d a b) ≡ odd (ones flips) ⊻ turning
+      go false t y e k = absurd (false≢true k)
+      go true t false e k = absurd (false≢true k)
+      go true t true e k =
+          ap negative
+          (pair-sign mode f d a bladeFor h (pow-mono l) t refl (eqb-true _ _ e)
+          ∙ ones-differ 9 flips (turns d a b) (lt-of-lt-of-le (lt-of-le-of-lt (and-le-l a (bladeFor .flips)) h) (pow-mono l)) (turns-lt d a b)
+          ∙ ap₂ (λ s t. s *ℤ t) (sign-parity (ones flips)) (turned-sign d a b)
+          ∙ sym (sign-differ (odd (ones flips)) turning))
+          ∙ sign-negative (odd (ones flips) ⊻ turning)

@@ -12,10 +12,9 @@ use Rattle.masks.specs.Outcome.{Test, Pair, refusal, tooMany, wrongCount, noRoo
 use Rattle.masks.specs.Shape.{promotes, conformed, conformedShape, conform, bothTests, meetingDims}
 use Rattle.masks.proofs.ShapeLaws.{paired, second-room}
 use Rattle.masks.proofs.OutcomeLaws.{unless-refused, unless-done, refused-first, refused-later, Passed, passed}
-use Rattle.masks.proofs.OrderLaws.{blades-le}
 use Rattle.product.specs.declared.outcome.Product.{Product}
 use Rattle.product.specs.declared.mode.Mode.{Mode}
-use Rattle.product.specs.Products.{Counted, GivesProduct, productOf, refusedProduct, productTests, multiplied}
+use Rattle.product.specs.Products.{Counted, GivesProduct, productOf, refusedProduct, multipliedOf, productTests, multiplied}
 
 -- ---- the contract
 
@@ -87,9 +86,13 @@ module _ (s t : Shape) (a b : List Float) where
 
 -- ---- room for any value, and less
 
-room-for-any : (n : ℕ) → n ≤ 9 → refusal (noRoom 512 (2 ^ n) ∷ noRoom 512 (2 ^ n) ∷ []) ≡ 0
+-- Room for the result of two values that meet in n dimensions, if these are at most 9.
+abbrev pub Wide : ℕ → ℕ → Type 0
+Wide n w = n ≤ 9 → 2 ^ n ≤ w
+
+room-for-any : (n w : ℕ) → Wide n w → n ≤ 9 → refusal (noRoom w (2 ^ n) ∷ noRoom w (2 ^ n) ∷ []) ≡ 0
 unfolding refusal
-room-for-any n h = rw (le-ltb 512 (2 ^ n) (blades-le n h))
+room-for-any n w wide h = rw (le-ltb w (2 ^ n) (wide h))
 
 -- Two lists of tests that begin alike give one number, if they do after a first test that does not fail.
 begin-alike : (k : ℕ) (t : Test) (ts us : List Test) → (t .fails ≡ false → refusal ts ≡ k → refusal us ≡ k) → refusal (t ∷ ts) ≡ k → refusal (t ∷ us) ≡ k
@@ -99,32 +102,46 @@ begin-alike k t ts us h e = go (t .fails) refl
     go true p = refused-first t us p ∙ sym (refused-first t ts p) ∙ e
     go false p = refused-later t us p ∙ h p (sym (refused-later t ts p) ∙ e)
 
-module _ (s t : Shape) (a b : List Float) where
+module _ (s t : Shape) (a b : List Float) (w : ℕ) (wide : Wide (meetingDims s t) w) where
   abbrev n : ℕ
   n = meetingDims s t
 
   -- A refusal for want of anything but room is the same whatever the room.
-  pub refused-anyway : (room k : ℕ) → (k ≡ 0 → ⊥) → refusal (conformTests s t a b 512 512) ≡ k → refusal (productTests s t a b room) ≡ k
+  pub refused-anyway : (room k : ℕ) → (k ≡ 0 → ⊥) → refusal (conformTests s t a b w w) ≡ k → refusal (productTests s t a b room) ≡ k
   refused-anyway room k h =
       begin-alike k (tooMany (s .dims)) _ _
       (λ _. begin-alike k (tooMany (t .dims)) _ _
       (λ _. begin-alike k (tooMany n) _ _
       (λ small. begin-alike k (wrongCount (length a) (s .dims)) _ _
       (λ _. begin-alike k (wrongCount (length b) (t .dims)) _ _
-      (λ _ z. absurd (h (sym z ∙ room-for-any n (ltb-false 9 n small))))))))
+      (λ _ z. absurd (h (sym z ∙ room-for-any n w wide (ltb-false 9 n small))))))))
 
   -- What is not refused where there is room for any value is refused 3 just where there is too little.
-  pub refused-for-room : (room : ℕ) → refusal (conformTests s t a b 512 512) ≡ 0 → room < 2 ^ n → refusal (productTests s t a b room) ≡ 3
+  pub refused-for-room : (room : ℕ) → refusal (conformTests s t a b w w) ≡ 0 → room < 2 ^ n → refusal (productTests s t a b room) ≡ 3
   unfolding refusal
   refused-for-room room z h =
-      let p = paired (s .dims) (t .dims) n (length a) (length b) 512 512 z in
+      let p = paired (s .dims) (t .dims) n (length a) (length b) w w z in
       rw (le-ltb 9 (s .dims) (p .small), le-ltb 9 (t .dims) (p .smallRight), le-ltb 9 n (p .result), eq-eqb (length a) (2 ^ s .dims) (p .counted), eq-eqb (length b) (2 ^ t .dims) (p .countedRight), lt-ltb room (2 ^ n) h)
 
-  pub roomy-enough : (room : ℕ) → refusal (conformTests s t a b 512 512) ≡ 0 → 2 ^ n ≤ room → refusal (productTests s t a b room) ≡ 0
+  pub roomy-enough : (room : ℕ) → refusal (conformTests s t a b w w) ≡ 0 → 2 ^ n ≤ room → refusal (productTests s t a b room) ≡ 0
   unfolding refusal
   roomy-enough room z h =
-      let p = paired (s .dims) (t .dims) n (length a) (length b) 512 512 z in
+      let p = paired (s .dims) (t .dims) n (length a) (length b) w w z in
       rw (le-ltb 9 (s .dims) (p .small), le-ltb 9 (t .dims) (p .smallRight), le-ltb 9 n (p .result), eq-eqb (length a) (2 ^ s .dims) (p .counted), eq-eqb (length b) (2 ^ t .dims) (p .countedRight), le-ltb room (2 ^ n) h)
+
+-- ---- a product of either kind
+
+-- What makes a product of two values of one shape's dimensions.
+abbrev pub Of : Type 0
+Of = Shape → List Float → List Float → Counted
+
+-- Both values are conformed, and a product is made of them.
+unfoldable pub made : Of → Shape → Shape → List Float → List Float → ℕ → Counted
+made of s t a b room = let c = conform s t a b room room in unless refusedProduct (refusal (productTests s t a b room)) (of (c .leftShape) (c .leftCoefs) (c .rightCoefs))
+
+pub made-refused : (of : Of) (s t : Shape) (a b : List Float) (room n : ℕ) → n ≡ refusal (productTests s t a b room) → (n ≡ 0 → ⊥) → made of s t a b room ≡ refusedProduct n
+unfolding made
+made-refused of s t a b room n e h = unless-refused refusedProduct (refusal (productTests s t a b room)) n _ e h
 
 -- ---- the number that a product is refused with
 
@@ -140,8 +157,8 @@ module _ (mode : Mode) (s t : Shape) (a b : List Float) (room : ℕ) where
   refused-by = number-of-product (refusal (productTests s t a b room)) _ refl
 
   pub multiplied-refused : (n : ℕ) → n ≡ refusal (productTests s t a b room) → (n ≡ 0 → ⊥) → multiplied mode s t a b room ≡ refusedProduct n
-  unfolding multiplied
-  multiplied-refused n e h = unless-refused refusedProduct (refusal (productTests s t a b room)) n _ e h
+  unfolding multiplied made
+  multiplied-refused n e h = made-refused (multipliedOf mode) s t a b room n e h
 
   -- A refused product has no pairs, no coefficients and the shape 0 Vanilla.
   pub refused-product : (multiplied mode s t a b room .outcome .number ≡ 0 → ⊥)

@@ -58,7 +58,7 @@ within-digits : (s free : ℕ) → bitAnd (s / 2) (free / 2) ≡ s / 2 → s % 2
 within-digits s free h l = and-digits s free (s / 2) (s % 2) h (min-eq-left l) ∙ div-add-mod' s 2
 
 -- What an `and` gives is within its second number.
-and-twice : (a b : ℕ) → bitAnd (bitAnd a b) b ≡ bitAnd a b
+pub and-twice : (a b : ℕ) → bitAnd (bitAnd a b) b ≡ bitAnd a b
 and-twice =
     bin-ind (λ (n : ℕ). (b : ℕ) → bitAnd (bitAnd n b) b ≡ bitAnd n b) (λ b. refl)
     (λ n ih b.
@@ -143,12 +143,12 @@ next-least (suc d) free s low within t inside l =
 
 -- ---- what comes before
 
-before-or-at : (t s : ℕ) → t ≤ s → (ltb t s || eqb t s) ≡ true
+pub before-or-at : (t s : ℕ) → t ≤ s → (ltb t s || eqb t s) ≡ true
 before-or-at t s h =
     ⊎-elim (λ (l : t < s). ap (λ x. x || eqb t s) (lt-ltb t s l))
     (λ (l : s ≤ t). ap₂ (λ x y. x || y) (le-ltb t s l) (eq-eqb t s (omega arith))) (split t s)
 
-neither-before : (t s : ℕ) → s < t → (ltb t s || eqb t s) ≡ false
+pub neither-before : (t s : ℕ) → s < t → (ltb t s || eqb t s) ≡ false
 neither-before t s h = ap₂ (λ x y. x || y) (le-ltb t s (omega arith)) (ne-eqb t s (λ e. omega (arith, e)))
 
 module _ (d free s : ℕ) (low : free < 2 ^ d) (within : bitAnd s free ≡ s) where

@@ -2,6 +2,7 @@
 pub mod Mode
 pub mod Pairwise
 pub mod Products
+pub mod Given
 pub mod Whole
 pub mod Accuracy
 pub mod Reverse

@@ -3,6 +3,6 @@ mod metric;
 pub mod mode;
 pub mod outcome;
 mod pairs;
-mod pairwise;
 pub mod products;
 mod snap;
+mod sums;

@@ -1,33 +1,17 @@
 // The snap, by the nearest whole number.
 ghost use mathlib.Core.Path.{_≡_};
-ghost use mathlib.Core.List.{map};
-ghost use Prim.Native.Nat.{_≤_};
 ghost use lib.Ieee.{binary64};
-ghost use lib.ListN.{length, take};
 ghost use Rattle.rounding.specs.Snap.{snap};
-ghost use Rattle.masks.specs.Outcome.{laid};
 
 // 1.5 x 2 ^ 52: a float below 2 ^ 51 in size has no fraction left once this is added. From there on no float is within 1e-14 of another.
 const WHOLE: f64 = 6755399441055744.0;
 
 // Where the fraction of x's size is below 1e-14, or 1 less it is, the nearest whole number, with x's sign; x otherwise.
-fn snap_one(x: f64) -> f64
+pub(crate) fn snap_one(x: f64) -> f64
     ensures { λ r. ⌜ r ≡ snap binary64 x ⌝ }
 {
     let r = (x + WHOLE) - WHOLE;
     let e = x - r;
     let w = if r == 0.0 { 0.0 * x } else { r };
     if (e < 1e-14) & (-1e-14 < e) { w } else { x }
-}
-
-// The first n numbers, snapped.
-pub(crate) fn snap_all(n: usize, out: &mut [f64])
-    requires { ⌜ n ≤ length (now out) ⌝ }
-    ensures { λ _. ⌜ now (out .exit) ≡ laid (map (snap binary64) (take n (now (out .entry)))) (now (out .entry)) ⌝ }
-{
-    let mut k: usize = 0;
-    while k < n {
-        out[k] = snap_one(out[k]);
-        k += 1;
-    }
 }

@@ -22,10 +22,6 @@ maskOf (suc i) test = maskOf i test + cond (test i) (2 ^ i) 0
 unfoldable pub squaresBelow : ℕ → Flavor → Squares
 squaresBelow n f = record { null = maskOf n (λ i. not (nonzero (metricOf f i))); minus = maskOf n (λ i. negative (metricOf f i)) }
 
--- One basis vector more, that squares to m and has the mask `bit`.
-unfoldable pub withSquare : Squares → ℤ → ℕ → Squares
-withSquare s m bit = record { null = s .null + cond (nonzero m) 0 bit; minus = s .minus + cond (negative m) bit 0 }
-
 -- `oddBelow b` has the bits that an odd number of b's bits stand below.
 unfoldable pub oddBelow : ℕ → ℕ
 oddBelow b = maskOf 9 (λ i. eqb (count i (has b) % 2) 1)
@@ -33,10 +29,6 @@ oddBelow b = maskOf 9 (λ i. eqb (count i (has b) % 2) 1)
 -- A blade of b, with the vectors of a that it makes the metric 0 by, and those that change the sign.
 unfoldable pub bladeOf : Squares → ℕ → Blade
 bladeOf s b = record { mask = b; null = bitAnd b (s .null); flips = bitXor (oddBelow b) (bitAnd b (s .minus)) }
-
--- 1 for the mask 101.
-abbrev pub turnedOne : ℕ → ℕ
-turnedOne m = cond (eqb m 5) 1 0
 
 -- Whether an odd number of a, b and a xor b are turned.
 unfoldable pub turns : ℕ → ℕ → ℕ → ℕ

@@ -14,7 +14,7 @@ same-length : tie.Need-same-length
 same-length c = search needs
 
 returns : tie.Need-returns
-returns c = record { answered = ap (λ n. record { number = 0; shape = c .before .before .before .before .before .before .before .before .args .shape; pairs = n }) (c .pair-count .ensures); left = c .before .before .before .fill .ensures }
+returns c = record { answered = ap (λ n. record { number = 0; shape = c .before .before .before .before .before .before .before .before .before .args .shape; pairs = n }) (c .pair-count .ensures); left = c .before .before .before .fill .ensures }
 
 pub multiply-same-spec : {M : Type 1} → statement M
 multiply-same-spec = tie.close (tie.spec fill-requires pair-count-requires same-length returns)
