@@ -1,8 +1,9 @@
 -- What the proofs of duals and the regressive product share: the pseudo unit, what the duals write, and the tests of the regressive product. Assumes nothing.
-use mathlib.Core.Path.{_≡_, refl, sym, ap, ap₂, _∙_}
+use mathlib.Core.Path.{_≡_, refl, sym, ap, ap₂, _∙_, subst}
 use mathlib.Core.List.{List, [], _∷_}
 use Prim.Native.Nat.{ℕ, _-_, _^_, _≤_}
 use native.Mathlib.Nat.{add-zero, sub-zero, le-refl}
+use native.Mathlib.Omega.{arith}
 use lib.Ieee.{Float, binary64}
 use lib.ListN.{length, take}
 use Rattle.masks.specs.declared.flavor.Flavor.the-variants.{Vanilla}
@@ -18,14 +19,18 @@ use Rattle.masks.proofs.OutcomeLaws.{gives-refused, gives-done, Passed}
 use Rattle.masks.proofs.BuildLaws.{size-last, grade-fits, length-grade-set, one-built}
 use Rattle.product.specs.declared.mode.Mode.the-variants.{All, Outer}
 use Rattle.product.specs.declared.outcome.Product.{Product}
-use Rattle.product.specs.Products.{Counted, GivesProduct, multipliedOf, productTests, generalProduct, outerProduct}
+use Rattle.product.specs.Given.{multipliedBy}
+use Rattle.product.specs.Products.{Counted, GivesProduct, multipliedOf, productTests, outerProduct}
 use Rattle.product.proofs.ProductsRefusals.{pair-accepted, pair}
 use Rattle.product.proofs.PairwiseLaws.{product-length}
 use Rattle.product.proofs.ProductsLaws.{multiplied-same, multiplied-done}
+use Rattle.product.proofs.ProductsGiven.{multiplied-ordered}
 use Rattle.arithmetic.specs.Scale.{unity}
 use Rattle.arithmetic.specs.Operators.{withCoefs, multiplication}
 use Rattle.arithmetic.specs.Dual.{ample, pseudoUnit, dualOf, antidualOf, regressiveProduct}
+use Rattle.arithmetic.specs.inner.Given.{InOrder}
 use Rattle.arithmetic.proofs.OperatorsLaws.{multiply-same}
+use Rattle.arithmetic.proofs.OrderPassed.{passed-vanilla}
 
 -- ---- the pseudo unit
 
@@ -36,21 +41,23 @@ unit-built : (d room : ℕ) → d ≤ 9 → 2 ^ d ≤ room → pseudoscalar d un
 unfolding pseudoscalar addedDims
 unit-built d room h m = rw (add-zero d) (one-built d d (unity ∷ []) Vanilla room h m)
 
--- ---- what `dual` and `antidual` write, whatever the room: the pseudo unit is built at the front of an array with room for any value
+-- ---- what `dual` and `antidual` write, whatever the room: the pseudo unit is built at the front of an array that is long enough
 
-module _ (d : ℕ) (a : List Float) (h : d ≤ 9) (e : length a ≡ 2 ^ d) (v : Shape) (w : v ≡ shapeOf d Vanilla) (u : Answer) (zeros held : List Float) (built : Gives (pseudoscalar d unity Vanilla 512) u zeros held) where
+module _ (d : ℕ) (a : List Float) (h : d ≤ 9) (e : length a ≡ 2 ^ d) (v : Shape) (w : v ≡ shapeOf d Vanilla) (u : Answer) (array held : List Float) (long : length a ≤ length array)
+    (built : Gives (pseudoscalar d unity Vanilla (length array)) u array held) where
   unit-part : take (length a - 0) held ≡ pseudoUnit d
   unit-part =
-      ap (take (length a - 0)) (built .left ∙ ap (λ (o : Outcome). laid (o .coefs) zeros) (unit-built d 512 h (blades-le d h)))
-      ∙ take-laid (length a - 0) (pseudoUnit d) zeros (unit-length d ∙ sym e ∙ sym (sub-zero (length a)))
+      ap (take (length a - 0)) (built .left ∙ ap (λ (o : Outcome). laid (o .coefs) array) (unit-built d (length array) h (omega arith)))
+      ∙ take-laid (length a - 0) (pseudoUnit d) array (unit-length d ∙ sym e ∙ sym (sub-zero (length a)))
 
   module _ (before after : List Float) (m : 2 ^ d ≤ length before) where
-    pub dual-laid : (r : Product) → GivesProduct (generalProduct v v a (take (length a - 0) held) (length before)) r before after → after ≡ laid (dualOf d a) before
+    pub dual-laid : (given : List ℕ) → InOrder given d → (r : Product) → GivesProduct (multipliedBy given All v v a (take (length a - 0) held) (length before)) r before after → after ≡ laid (dualOf d a) before
     unfolding dualOf
-    dual-laid r g =
+    dual-laid given ordered r g =
         (rw (w, unit-part) at g) .left
         ∙ ap (λ (o : Counted). laid (o .outcome .coefs) before)
-        (multiplied-same All (shapeOf d Vanilla) a (pseudoUnit d) (length before) (record { small = h; roomy = m }) e (unit-length d))
+        (multiplied-ordered All (shapeOf d Vanilla) (shapeOf d Vanilla) a (pseudoUnit d) (length before) given (passed-vanilla given d (shapeOf d Vanilla) refl ordered)
+        ∙ multiplied-same All (shapeOf d Vanilla) a (pseudoUnit d) (length before) (record { small = h; roomy = m }) e (unit-length d))
 
     pub antidual-laid : (r : Answer) → Gives (multiplication v v (take (length a - 0) held) a (length before)) r before after → after ≡ laid (antidualOf d a) before
     unfolding antidualOf
@@ -94,20 +101,26 @@ module _ (s t : Shape) (a b : List Float) (room : ℕ) (m : Meets s t a b room) 
   outer = outerProduct s t x y ample .outcome
 
   -- It is not refused.
-  outer-tests : refusal (productTests s t x y ample) ≡ 0
-  outer-tests =
-      pair-accepted (s .dims) (t .dims) (meetingDims s t) (length x) (length y) ample
+  outer-tests : (wide : ℕ) → 2 ^ meetingDims s t ≤ wide → refusal (productTests s t x y wide) ≡ 0
+  outer-tests wide h =
+      pair-accepted (s .dims) (t .dims) (meetingDims s t) (length x) (length y) wide
       (record {
         small = m .small;
         smallRight = m .smallRight;
         result = m .result;
         counted = dual-length (s .dims) a;
         countedRight = dual-length (t .dims) b;
-        roomy = blades-le (meetingDims s t) (m .result);
+        roomy = h;
       })
 
+  outer-in : (wide : ℕ) → 2 ^ meetingDims s t ≤ wide → outerProduct s t x y wide ≡ multipliedOf Outer (pair s t x y .leftShape) (pair s t x y .leftCoefs) (pair s t x y .rightCoefs)
+  outer-in wide h = multiplied-done s t x y Outer wide (outer-tests wide h)
+
+  outer-ample : outerProduct s t x y ample ≡ multipliedOf Outer (pair s t x y .leftShape) (pair s t x y .leftCoefs) (pair s t x y .rightCoefs)
+  outer-ample = outer-in ample (blades-le (meetingDims s t) (m .result))
+
   outer-is : outer ≡ multipliedOf Outer (pair s t x y .leftShape) (pair s t x y .leftCoefs) (pair s t x y .rightCoefs) .outcome
-  outer-is = ap (λ (o : Counted). o .outcome) (multiplied-done s t x y Outer ample outer-tests)
+  outer-is = ap (λ (o : Counted). o .outcome) outer-ample
 
   outer-dims : outer .shape .dims ≡ meetingDims s t
   unfolding conformedShape
@@ -118,11 +131,15 @@ module _ (s t : Shape) (a b : List Float) (room : ℕ) (m : Meets s t a b room) 
       let u = pair s t x y .leftShape in
       ap (λ (o : Outcome). length (o .coefs)) outer-is ∙ product-length Outer (u .flavor) (u .dims) binary64 _ _ ∙ ap (λ (o : Outcome). 2 ^ o .shape .dims) (sym outer-is)
 
-  -- The code has the duals at the fronts of two arrays, and their product at the front of a third.
-  module _ (p : Product) (bx ax by ay bz az : List Float) (ex : ax ≡ laid x bx) (ey : ay ≡ laid y by)
-      (g : GivesProduct (outerProduct s t (take (length a - 0) ax) (take (length b - 0) ay) ample) p bz az) where
+  -- The code has the duals at the fronts of two arrays, and their product, by masks that are in order, at the front of a third.
+  module _ (given : List ℕ) (ordered : InOrder given (meetingDims s t)) (p : Product) (bx ax by ay bz az : List Float) (long : 2 ^ meetingDims s t ≤ length bz)
+      (ex : ax ≡ laid x bx) (ey : ay ≡ laid y by)
+      (g : GivesProduct (multipliedBy given Outer s t (take (length a - 0) ax) (take (length b - 0) ay) (length bz)) p bz az) where
     gives-outer : GivesProduct (outerProduct s t x y ample) p bz az
-    gives-outer = rw (dual-part (length a) (s .dims) a bx ax (m .counted) ex, dual-part (length b) (t .dims) b by ay (m .countedRight) ey) at g
+    gives-outer =
+        subst (λ (o : Counted). GivesProduct o p bz az)
+        (multiplied-ordered Outer s t x y (length bz) given ordered ∙ outer-in (length bz) long ∙ sym outer-ample)
+        (rw (dual-part (length a) (s .dims) a bx ax (m .counted) ex, dual-part (length b) (t .dims) b by ay (m .countedRight) ey) at g)
 
     shape-is : p .shape ≡ outer .shape
     shape-is = ap (λ (q : Product). q .shape) (gives-outer .answered)

@@ -2,6 +2,7 @@
 pub mod KeptLaws
 pub mod ScalarLaws
 pub mod OperatorsLaws
+pub mod OrderPassed
 pub mod DualRegressive
 pub mod InverseLaws
 pub mod QuotientLaws

@@ -190,6 +190,11 @@ module _ (s t : Shape) (a b : List Float) (room : ℕ) where
     pub was-scalar : other ≡ false → isScalar b ≡ true
     was-scalar e = not-false (isScalar b) (sym other-is ∙ e)
 
+-- `*` is the same whatever the room, where there is enough.
+pub multiply-room : (s t : Shape) (a b : List Float) (room other : ℕ) → refusal (operatorTests s t a b room) ≡ 0 → refusal (operatorTests s t a b other) ≡ 0
+    → multiplication s t a b room ≡ multiplication s t a b other
+multiply-room s t a b room other z y = multiply-done s t a b room z ∙ sym (multiply-done s t a b other y)
+
 -- Sums have the places of their numbers.
 pub each-length : (op : Sum) (a b : List Float) → length a ≡ length b → length (summedEach op a b) ≡ length a
 unfolding summedEach
@@ -259,7 +264,7 @@ module _ (s t : Shape) (a : List Float) (r : Answer) (before mid : List Float) (
 -- ---- values of one shape
 
 -- A value is not promoted to the flavor it has.
-promotes-same : (f : Flavor) → promotes f f ≡ 0
+pub promotes-same : (f : Flavor) → promotes f f ≡ 0
 unfolding promotes
 promotes-same Vanilla = refl
 promotes-same Projective = refl

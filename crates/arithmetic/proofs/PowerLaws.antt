@@ -1,17 +1,17 @@
 -- Powers: which inputs are refused, exactly, the shape of the others, and how far the digits go. Assumes nothing.
 use mathlib.Core.Path.{_≡_, refl, sym, ap, _∙_}
-use mathlib.Core.Bool.{Bool, true, false, true≢false, _&&_, cond}
+use mathlib.Core.Bool.{Bool, true, false, true≢false, not, _&&_, cond}
 use mathlib.Core.List.{List, [], _∷_}
 use mathlib.Core.Logic.{_⊎_, inl, inr}
 use Prim.Native.Nat.{ℕ, zero, suc, _+_, _^_, _/_, _%_, _≤_, _<_, max}
 use native.Mathlib.Nat.{pow-suc}
 use native.Mathlib.Omega.{arith}
-use borrow.Author.Tests.{eq-eqb, ne-eqb, eqb-true, eqb-false, le-ltb, lt-ltb, ltb-true, ltb-false, not-false}
+use borrow.Author.Tests.{eq-eqb, ne-eqb, eqb-true, eqb-false, le-leb, le-ltb, lt-ltb, ltb-true, ltb-false, not-false}
 use lib.Dec.{eqb}
 use lib.Ieee.{Float}
 use lib.IntN.{ℤ, pos, negsuc}
 use lib.ListN.{length, take}
-use lib.Signed.{ltZ}
+use lib.Signed.{ltZ, leZ}
 use mir.Syntax.{w32}
 use mir.Val.{SFits, toZ, ofZ}
 use mir.ValLaws.{toZ-ofZ}
@@ -21,7 +21,7 @@ use Rattle.masks.specs.declared.outcome.Answer.{Answer}
 use Rattle.masks.specs.declared.shape.Shape.{Shape}
 use Rattle.masks.specs.Flavor.{addedDims}
 use Rattle.masks.specs.Outcome.{Test, Outcome, Gives, refusal, tooMany, wrongCount, noRoom, unless, value, refusedValue, laid}
-use Rattle.masks.specs.Shape.{withDims, setDims, promotes}
+use Rattle.masks.specs.Shape.{withDims, setDims}
 use Rattle.masks.proofs.ListLaws.{take-laid, both-true}
 use Rattle.masks.proofs.OrderLaws.{blades-le}
 use Rattle.masks.proofs.OutcomeLaws.{refused-first, refused-later, not-refused}
@@ -31,7 +31,7 @@ use Rattle.arithmetic.specs.Dual.{ample}
 use Rattle.arithmetic.specs.Inverse.{squareOf}
 use Rattle.arithmetic.specs.Power.{isNegative, sizeOf, isDirect, powerDims, raised, powerOf, negativePlanar, leastPower, powerTests, power}
 use Rattle.arithmetic.proofs.KeptLaws as Kept
-use Rattle.arithmetic.proofs.OperatorsLaws.{multiply-length}
+use Rattle.arithmetic.proofs.OperatorsLaws.{promotes-same, multiply-length, multiply-room}
 use Rattle.arithmetic.proofs.ScalarLaws.{IsPlanar, planar-is, is-planar}
 
 -- ---- the exponent
@@ -43,6 +43,13 @@ below-zero z f = rw (toZ-ofZ w32 z f) (go z)
     go : (y : ℤ) → ltZ y (pos 0) ≡ isNegative y
     go (pos n) = le-ltb n 0 (omega arith)
     go (negsuc n) = refl
+
+pub from-zero : (z : ℤ) → SFits w32 z → (t : Bool) → leZ (pos 0) (toZ w32 (ofZ w32 z)) ≡ t → isNegative z ≡ not t
+from-zero z f t e = go z (rw (toZ-ofZ w32 z f) at e)
+  where
+    go : (y : ℤ) → leZ (pos 0) y ≡ t → isNegative y ≡ not t
+    go (pos n) q = ap not (sym (le-leb 0 n (omega arith)) ∙ q)
+    go (negsuc n) q = ap not q
 
 pub added-le : (f : Flavor) → addedDims f ≤ 1
 unfolding addedDims
@@ -92,12 +99,6 @@ copied-on s n xs buf held out after r h c l m e g =
 
 -- ---- `*` by a value of no more dimensions
 
-promotes-same : (f : Flavor) → promotes f f ≡ 0
-unfolding promotes
-promotes-same Vanilla = refl
-promotes-same Projective = refl
-promotes-same (Cl p n z) = refl
-
 module _ (g s : Shape) (r x : List Float) (f : g .flavor ≡ s .flavor) (m : s .dims ≤ g .dims) (h : g .dims ≤ 9) (l : length r ≡ 2 ^ g .dims) (k : length x ≡ 2 ^ s .dims) where
   grown-dims : resultDims g s x ≡ g .dims
   unfolding resultDims
@@ -107,13 +108,20 @@ module _ (g s : Shape) (r x : List Float) (f : g .flavor ≡ s .flavor) (m : s .
       go true = omega arith
       go false = omega arith
 
-  pub grown-number : refusal (operatorTests g s r x 512) ≡ 0
+  grown-number : (room : ℕ) → 2 ^ g .dims ≤ room → refusal (operatorTests g s r x room) ≡ 0
   unfolding refusal
-  grown-number =
-      rw (grown-dims, le-ltb 9 (g .dims) h, le-ltb 9 (s .dims) (omega arith), eq-eqb (length r) (2 ^ g .dims) l, eq-eqb (length x) (2 ^ s .dims) k, le-ltb 512 (2 ^ g .dims) (blades-le (g .dims) h))
+  grown-number room q =
+      rw (grown-dims, le-ltb 9 (g .dims) h, le-ltb 9 (s .dims) (omega arith), eq-eqb (length r) (2 ^ g .dims) l, eq-eqb (length x) (2 ^ s .dims) k, le-ltb room (2 ^ g .dims) q)
+
+  grown-ample : refusal (operatorTests g s r x 512) ≡ 0
+  grown-ample = grown-number 512 (blades-le (g .dims) h)
 
   pub grown-length : length (multiplication g s r x 512 .coefs) ≡ 2 ^ g .dims
-  grown-length = multiply-length g s r x 512 grown-number ∙ ap (λ (n : ℕ). 2 ^ n) grown-dims
+  grown-length = multiply-length g s r x 512 grown-ample ∙ ap (λ (n : ℕ). 2 ^ n) grown-dims
+
+  -- In any output with room the result is that of an output of 512 numbers.
+  pub grown-room : (room : ℕ) → 2 ^ g .dims ≤ room → multiplication g s r x room ≡ multiplication g s r x 512
+  grown-room room q = multiply-room g s r x room 512 (grown-number room q) grown-ample
 
 -- ---- lists of tests
 

@@ -11,3 +11,4 @@ pub mod Quotient
 pub mod Power
 pub mod Compare
 pub mod Accuracy
+pub mod inner

@@ -10,12 +10,14 @@ use masks::outcome::PLANAR;
 use masks::outcome::done;
 use masks::outcome::refused;
 use masks::shape::Shape;
-use product::products::general_product;
+use product::mode::Mode;
+use product::products::multiply;
 ghost use mathlib.Core.Path.{_≡_};
 ghost use Prim.Native.Nat.{_^_, _≤_, _<_};
 ghost use lib.Ieee.{nan};
 ghost use lib.ListN.{length, getD, set, take};
 ghost use Rattle.masks.specs.Outcome.{Gives, laid};
+ghost use Rattle.arithmetic.specs.inner.Given.{InOrder};
 ghost use Rattle.arithmetic.specs.Scalar.{testOf, wasPlanar};
 ghost use Rattle.arithmetic.specs.Scale.{reciprocal};
 ghost use Rattle.arithmetic.specs.Inverse.{squareOf, lessScalar, bySquare, nanified, generalInverse, inverseOf, inverse};
@@ -32,24 +34,46 @@ pub(crate) fn was_planar(test: ScalarTest) -> bool
 }
 
 // The value squared by the pairwise product, at the front of the output.
-pub(crate) fn put_square(shape: Shape, x: &[f64], out: &mut [f64])
+pub(crate) fn put_square(given: &[u16], shape: Shape, x: &[f64], out: &mut [f64])
+    requires { ⌜ InOrder (now given) (shape .dims) ⌝ }
     requires { ⌜ (shape .dims ≤ 9) × (length (now x) ≡ 2 ^ (shape .dims)) × (2 ^ (shape .dims) ≤ length (now out)) ⌝ }
     ensures { λ _. ⌜ now (out .exit) ≡ laid (squareOf shape (now (x .entry))) (now (out .entry)) ⌝ }
 {
-    general_product(shape, shape, x, x, out);
+    multiply(given, Mode::All, shape, shape, x, x, out);
 }
 
-// The scalar test of x squared, x being the value with -s added at place 0, s.
-fn test_square(shape: Shape, a: &[f64]) -> ScalarTest
+// The scalar test of x squared, x being the value with -s added at place 0, s. The arrays for x and its square are lent.
+fn test_square_in(
+    given: &[u16],
+    shape: Shape,
+    a: &[f64],
+    x: &mut [f64],
+    square: &mut [f64],
+) -> ScalarTest
+    requires { ⌜ InOrder (now given) (shape .dims) ⌝ }
+    requires { ⌜ (shape .dims ≤ 9) × (length (now a) ≡ 2 ^ (shape .dims)) × (length (now a) ≤ length (now x)) × (length (now a) ≤ length (now square)) ⌝ }
+    ensures { λ r. ⌜ r ≡ testOf shape (squareOf shape (lessScalar (now (a .entry)))) ⌝ }
+{
+    shape.set_dims(shape.dims, a, x);
+    x[0] = a[0] + -a[0];
+    put_square(given, shape, &x[0..a.len()], square);
+    test_of(shape, &square[0..a.len()])
+}
+
+// The same, in arrays as long as the dimensions want.
+fn test_square(given: &[u16], shape: Shape, a: &[f64]) -> ScalarTest
+    requires { ⌜ InOrder (now given) (shape .dims) ⌝ }
     requires { ⌜ (shape .dims ≤ 9) × (length (now a) ≡ 2 ^ (shape .dims)) ⌝ }
     ensures { λ r. ⌜ r ≡ testOf shape (squareOf shape (lessScalar (now (a .entry)))) ⌝ }
 {
+    if a.len() <= 64 {
+        let mut x = [0.0; 64];
+        let mut square = [0.0; 64];
+        return test_square_in(given, shape, a, &mut x, &mut square);
+    }
     let mut x = [0.0; 512];
     let mut square = [0.0; 512];
-    shape.set_dims(shape.dims, a, &mut x);
-    x[0] = a[0] + -a[0];
-    put_square(shape, &x[0..a.len()], &mut square);
-    test_of(shape, &square[0..a.len()])
+    test_square_in(given, shape, a, &mut x, &mut square)
 }
 
 // The value at the front, whose place 0 is s, becomes (-x + s) / (s x s - q).
@@ -78,11 +102,12 @@ fn put_nan(dims: u8, n: usize, out: &mut [f64])
 }
 
 // The inverse of a value that is neither scalar nor planar.
-fn put_general(shape: Shape, a: &[f64], out: &mut [f64])
+fn put_general(given: &[u16], shape: Shape, a: &[f64], out: &mut [f64])
+    requires { ⌜ InOrder (now given) (shape .dims) ⌝ }
     requires { ⌜ (shape .dims ≤ 9) × (length (now a) ≡ 2 ^ (shape .dims)) × (2 ^ (shape .dims) ≤ length (now out)) ⌝ }
     ensures { λ _. ⌜ now (out .exit) ≡ laid (generalInverse shape (now (a .entry))) (now (out .entry)) ⌝ }
 {
-    let test = test_square(shape, a);
+    let test = test_square(given, shape, a);
     match test {
         ScalarTest::Scalar(q) => {
             shape.set_dims(shape.dims, a, out);
@@ -103,7 +128,8 @@ fn put_reciprocal(shape: Shape, f: f64, a: &[f64], out: &mut [f64])
 }
 
 // The inverse, at the front of the output; a planar value has none, and nothing is written.
-pub(crate) fn put_inverse(shape: Shape, a: &[f64], out: &mut [f64])
+pub(crate) fn put_inverse(given: &[u16], shape: Shape, a: &[f64], out: &mut [f64])
+    requires { ⌜ InOrder (now given) (shape .dims) ⌝ }
     requires { ⌜ (shape .dims ≤ 9) × (length (now a) ≡ 2 ^ (shape .dims)) × (2 ^ (shape .dims) ≤ length (now out)) ⌝ }
     ensures { λ _. ⌜ now (out .exit) ≡ laid (inverseOf shape (now (a .entry))) (now (out .entry)) ⌝ }
 {
@@ -111,7 +137,7 @@ pub(crate) fn put_inverse(shape: Shape, a: &[f64], out: &mut [f64])
     match test {
         ScalarTest::Scalar(f) => put_reciprocal(shape, f, a, out),
         ScalarTest::Planar(_) => {}
-        ScalarTest::Neither => put_general(shape, a, out),
+        ScalarTest::Neither => put_general(given, shape, a, out),
     }
 }
 
@@ -126,6 +152,7 @@ pub fn inverted(shape: Shape, a: &[f64], out: &mut [f64]) -> Answer
     if was_planar(test_of(shape, a)) {
         return refused(PLANAR);
     }
-    put_inverse(shape, a, out);
+    let none: [u16; 0] = [];
+    put_inverse(&none, shape, a, out);
     done(shape)
 }

@@ -12,17 +12,19 @@ use masks::outcome::pair_refusal;
 use masks::outcome::refused;
 use masks::shape::Shape;
 use masks::shape::promotion;
-use product::products::general_product;
+use product::mode::Mode;
+use product::products::multiply;
 ghost use mathlib.Core.Path.{_≡_};
 ghost use mathlib.Core.Bool.{true, _&&_};
 ghost use Prim.Native.Nat.{_+_, _≤_};
 ghost use lib.Dec.{eqb};
 ghost use lib.ListN.{length, take};
 ghost use Rattle.masks.specs.Outcome.{Gives, laid, refusal, pairTests};
-ghost use Rattle.masks.specs.Shape.{promotes, conformTo, conform};
+ghost use Rattle.masks.specs.Shape.{promotes, conformTo, conform, meetingDims};
 ghost use Rattle.product.specs.Products.{generalProduct};
 ghost use Rattle.arithmetic.specs.declared.operators.Sum.the-variants.{Plus, Minus};
 ghost use Rattle.arithmetic.specs.Scale.{scaled};
+ghost use Rattle.arithmetic.specs.inner.Given.{InOrder};
 ghost use Rattle.arithmetic.specs.Operators.{isOther, joinedDims, operatorTests, withCoefs, multiplication, summed, summedAt0, summedEach, summedPair, addition};
 
 // A sum or a difference.
@@ -41,7 +43,7 @@ fn is_other(shape: Shape, b: &[f64]) -> bool
 
 // The dimensions that two values meet in, the right one promoted only where `other` says so; 10, which is refused, where
 // given ones are above 9.
-fn joined_dims(left: Shape, right: Shape, other: bool) -> u8
+pub(crate) fn joined_dims(left: Shape, right: Shape, other: bool) -> u8
     ensures { λ r. ⌜ (left .dims ≤ 9 → right .dims ≤ 9 → r ≡ joinedDims left right other) ⌝ }
 {
     if MAX_DIMS < left.dims {
@@ -97,17 +99,34 @@ fn mul_scalar(left: Shape, right: Shape, f: f64, a: &[f64], out: &mut [f64]) -> 
 }
 
 // The general product, without its count of pairs.
-fn mul_other(left: Shape, right: Shape, a: &[f64], b: &[f64], out: &mut [f64]) -> Answer
+fn mul_other(
+    given: &[u16],
+    left: Shape,
+    right: Shape,
+    a: &[f64],
+    b: &[f64],
+    out: &mut [f64],
+) -> Answer
+    requires { ⌜ InOrder (now given) (meetingDims left right) ⌝ }
     ensures { λ r. ⌜ Gives (generalProduct left right (now (a .entry)) (now (b .entry)) (length (now (out .entry))) .outcome) r (now (out .entry)) (now (out .exit)) ⌝ }
 {
-    let p = general_product(left, right, a, b, out);
+    let p = multiply(given, Mode::All, left, right, a, b, out);
     let number = p.number;
     let shape = p.shape;
     Answer { number, shape }
 }
 
-// `*`: by a scalar on the right each coefficient is multiplied, with no snap; else the general product.
-pub fn mul(left: Shape, right: Shape, a: &[f64], b: &[f64], out: &mut [f64]) -> Answer
+// `*`: by a scalar on the right each coefficient is multiplied, with no snap; else the general product, by the masks that are given or, where these are
+// too few, by an order that is built there.
+pub(crate) fn mul_by(
+    given: &[u16],
+    left: Shape,
+    right: Shape,
+    a: &[f64],
+    b: &[f64],
+    out: &mut [f64],
+) -> Answer
+    requires { ⌜ InOrder (now given) (meetingDims left right) ⌝ }
     ensures { λ r. ⌜ Gives (multiplication left right (now (a .entry)) (now (b .entry)) (length (now (out .entry)))) r (now (out .entry)) (now (out .exit)) ⌝ }
 {
     let no = operator_refusal(left, right, a, b, out.len());
@@ -117,9 +136,17 @@ pub fn mul(left: Shape, right: Shape, a: &[f64], b: &[f64], out: &mut [f64]) -> 
     let test = test_of(right, b);
     match test {
         ScalarTest::Scalar(f) => mul_scalar(left, right, f, a, out),
-        ScalarTest::Planar(_) => mul_other(left, right, a, b, out),
-        ScalarTest::Neither => mul_other(left, right, a, b, out),
+        ScalarTest::Planar(_) => mul_other(given, left, right, a, b, out),
+        ScalarTest::Neither => mul_other(given, left, right, a, b, out),
     }
+}
+
+// `*` of two values.
+pub fn mul(left: Shape, right: Shape, a: &[f64], b: &[f64], out: &mut [f64]) -> Answer
+    ensures { λ r. ⌜ Gives (multiplication left right (now (a .entry)) (now (b .entry)) (length (now (out .entry)))) r (now (out .entry)) (now (out .exit)) ⌝ }
+{
+    let none: [u16; 0] = [];
+    mul_by(&none, left, right, a, b, out)
 }
 
 fn sum_of(op: Sum, x: f64, y: f64) -> f64

@@ -1,10 +1,11 @@
 // Division by a value.
 use super::inverse::put_inverse;
-use super::operators::mul;
+use super::operators::mul_by;
 use super::operators::operator_refusal;
 use super::scalar::ScalarTest;
 use super::scalar::test_of;
 use super::scale::div_f64;
+use masks::order::put_order;
 use masks::outcome::Answer;
 use masks::outcome::DONE;
 use masks::outcome::PLANAR;
@@ -33,14 +34,46 @@ fn planar_refusal(left: Shape, right: Shape, a: &[f64], b: &[f64], room: usize) 
     PLANAR
 }
 
-// The left side times the inverse of the right.
+// The left side times the inverse of the right. Arrays for the inverse and for the order of its dimensions are lent; that order is built here, once, and
+// the product reads it too where the values meet in these dimensions.
+fn mul_inverse_in(
+    left: Shape,
+    right: Shape,
+    a: &[f64],
+    b: &[f64],
+    order: &mut [u16],
+    inverse: &mut [f64],
+    out: &mut [f64],
+) -> Answer
+    requires { ⌜ (right .dims ≤ 9) × (length (now b) ≡ 2 ^ (right .dims)) × (length (inverseOf right (now b)) ≡ 2 ^ (right .dims)) ⌝ }
+    requires { ⌜ (length (now b) ≤ length (now order)) × (length (now b) ≤ length (now inverse)) ⌝ }
+    ensures { λ r. ⌜ Gives (multiplication left right (now (a .entry)) (inverseOf right (now (b .entry))) (length (now (out .entry)))) r (now (out .entry)) (now (out .exit)) ⌝ }
+{
+    put_order(right.dims, order);
+    put_inverse(&order[0..b.len()], right, b, inverse);
+    mul_by(
+        &order[0..b.len()],
+        left,
+        right,
+        a,
+        &inverse[0..b.len()],
+        out,
+    )
+}
+
+// The same, in arrays as long as the dimensions want.
 fn mul_inverse(left: Shape, right: Shape, a: &[f64], b: &[f64], out: &mut [f64]) -> Answer
     requires { ⌜ (right .dims ≤ 9) × (length (now b) ≡ 2 ^ (right .dims)) × (length (inverseOf right (now b)) ≡ 2 ^ (right .dims)) ⌝ }
     ensures { λ r. ⌜ Gives (multiplication left right (now (a .entry)) (inverseOf right (now (b .entry))) (length (now (out .entry)))) r (now (out .entry)) (now (out .exit)) ⌝ }
 {
+    if b.len() <= 64 {
+        let mut order = [0; 64];
+        let mut inverse = [0.0; 64];
+        return mul_inverse_in(left, right, a, b, &mut order, &mut inverse, out);
+    }
+    let mut order = [0; 512];
     let mut inverse = [0.0; 512];
-    put_inverse(right, b, &mut inverse);
-    mul(left, right, a, &inverse[0..b.len()], out)
+    mul_inverse_in(left, right, a, b, &mut order, &mut inverse, out)
 }
 
 // `/` by a value: by a scalar one nothing is conformed; by others it multiplies by the inverse.

@@ -1,9 +1,10 @@
--- `arithmetic::dual::antidual` meets its contract: refused by the tests, or done by `put_antidual`. Assumes nothing.
+-- `arithmetic::dual::antidual` meets its contract: refused by the tests, or done by `put_antidual`, to which no masks are given. Assumes nothing.
 use mathlib.Core.Path.{sym, _∙_}
 use borrow.Author.Needs.{needs}
 use lib.ListN.{length}
 use Rattle.arithmetic.specs.Dual.{antidualOf}
 use Rattle.arithmetic.proofs.KeptLaws.{kept-accepted, kept-refused, kept-done}
+use Rattle.arithmetic.proofs.OrderPassed.{passed-none}
 use Rattle.arithmetic.proofs.dual.antidual.Statement.{statement}
 use Rattle.arithmetic.proofs.dual.antidual.Tie as tie
 
@@ -19,11 +20,14 @@ returns c =
     let k = c .before .before .kept-refusal in
     kept-refused (antidualOf (a .shape .dims)) (a .shape) (a .a .now) (k .result) (c .refused .result) (a .out .now) (k .ensures) (c .before .if1 .taken) (c .refused .ensures)
 
+slice-aggregate-put-antidual : tie.Need-slice-aggregate-put-antidual
+slice-aggregate-put-antidual c = search needs
+
 put-antidual-requires : tie.Need-put-antidual-requires
 put-antidual-requires c κs =
-    let a = c .before .before .before .before .before .args in
-    let f = kept-accepted (a .shape) (a .a .now) (length (a .out .now)) (sym (c .before .before .kept-refusal .ensures) ∙ c .before .if1 .left) in
-    (f .small, f .counted, f .roomy)
+    let a = c .before .before .before .before .before .before .args in
+    let f = kept-accepted (a .shape) (a .a .now) (length (a .out .now)) (sym (c .before .before .before .kept-refusal .ensures) ∙ c .before .before .if1 .left) in
+    (passed-none (a .shape .dims), (f .small, f .counted, f .roomy))
 
 done-requires : tie.Need-done-requires
 done-requires c κs = search needs
@@ -33,9 +37,9 @@ same-length c = search needs
 
 returns-2 : tie.Need-returns-2
 returns-2 c =
-    let a = c .before .before .before .before .before .before .before .before .before .args in
-    let k = c .before .before .before .before .before .before .kept-refusal in
-    kept-done (antidualOf (a .shape .dims)) (a .shape) (a .a .now) (k .result) (c .done .result) (a .out .now) (k .ensures) _ (c .before .before .before .before .before .if1 .left) (c .done .ensures) (c .before .before .before .put-antidual .ensures)
+    let a = c .before .before .before .before .before .before .before .before .before .before .args in
+    let k = c .before .before .before .before .before .before .before .kept-refusal in
+    kept-done (antidualOf (a .shape .dims)) (a .shape) (a .a .now) (k .result) (c .done .result) (a .out .now) (k .ensures) _ (c .before .before .before .before .before .before .if1 .left) (c .done .ensures) (c .before .before .before .put-antidual .ensures)
 
 pub antidual-spec : {M : Type 1} → statement M
 antidual-spec =
@@ -44,6 +48,7 @@ antidual-spec =
     kept-refusal-requires
     refused-requires
     returns
+    slice-aggregate-put-antidual
     put-antidual-requires
     done-requires
     same-length

@@ -1,57 +1,45 @@
--- `arithmetic::dual::put_antidual` meets its contract: the pseudo unit is built at the front of an array, and multiplied. Assumes nothing.
+-- `arithmetic::dual::put_antidual` meets its contract: the array for the unit is as long as the value. Assumes nothing.
 use native.Mathlib.Omega.{arith}
 use borrow.Author.Needs.{needs}
-use lib.Ieee.{ofBits, ofFields}
 use Rattle.masks.proofs.OrderLaws.{blades-le}
-use Rattle.arithmetic.proofs.DualRegressive.{antidual-laid}
 use Rattle.arithmetic.proofs.dual.put_antidual.Statement.{statement}
 use Rattle.arithmetic.proofs.dual.put_antidual.Tie as tie
 
-with-flavor-requires : tie.Need-with-flavor-requires
-with-flavor-requires c κs = search needs
+slice-aggregate-put-antidual-in : tie.Need-slice-aggregate-put-antidual-in
+slice-aggregate-put-antidual-in c = search needs
 
-slice-aggregate-pseudoscalar : tie.Need-slice-aggregate-pseudoscalar
-slice-aggregate-pseudoscalar c = search needs
-
-pseudoscalar-requires : tie.Need-pseudoscalar-requires
-pseudoscalar-requires c κs = search needs
-
-sub-mul : tie.Need-sub-mul
-sub-mul c = search needs
-
-part-mul-start : tie.Need-part-mul-start
-part-mul-start c = search needs
-
-part-mul-end : tie.Need-part-mul-end
-part-mul-end c =
-    let s = c .before .before .before .before .before .before .before in
-    omega (arith, s .pre .1, blades-le (s .args .shape .dims) (s .pre .0))
-
-mul-requires : tie.Need-mul-requires
-mul-requires c κs = search needs
+put-antidual-in-requires : tie.Need-put-antidual-in-requires
+put-antidual-in-requires c κs = search needs
 
 same-length : tie.Need-same-length
 same-length c = search needs
 
 returns : tie.Need-returns
-unfolding ofBits ofFields
-returns c =
-    let s = c .before .before .before .before .before .before .before .before .before .before .before .before in
-    let a = s .args in
-    let u = c .before .before .before .before .before .before .before .pseudoscalar in
-    let v = c .before .before .before .before .before .before .before .before .before .with-flavor in
-    antidual-laid (a .shape .dims) (a .a .now) (s .pre .0) (s .pre .1) (v .result) (v .ensures) (u .result) _ _ (u .ensures) (a .out .now) _ (s .pre .2) (c .before .before .mul .result) (c .before .before .mul .ensures)
+returns c = search needs
+
+slice-aggregate-put-antidual-in-2 : tie.Need-slice-aggregate-put-antidual-in-2
+slice-aggregate-put-antidual-in-2 c = search needs
+
+put-antidual-in-requires-2 : tie.Need-put-antidual-in-requires-2
+put-antidual-in-requires-2 c κs =
+    let s = c .before .before .before .before .before .before in
+    (s .pre .0, (s .pre .1 .0, s .pre .1 .1, omega (arith, s .pre .1 .1, blades-le (s .args .shape .dims) (s .pre .1 .0)), s .pre .1 .2))
+
+same-length-2 : tie.Need-same-length-2
+same-length-2 c = search needs
+
+returns-2 : tie.Need-returns-2
+returns-2 c = search needs
 
 pub put-antidual-spec : {M : Type 1} → statement M
 put-antidual-spec =
     tie.close
     (tie.spec
-    with-flavor-requires
-    slice-aggregate-pseudoscalar
-    pseudoscalar-requires
-    sub-mul
-    part-mul-start
-    part-mul-end
-    mul-requires
+    slice-aggregate-put-antidual-in
+    put-antidual-in-requires
     same-length
-    returns)
+    returns
+    slice-aggregate-put-antidual-in-2
+    put-antidual-in-requires-2
+    same-length-2
+    returns-2)

@@ -7,6 +7,7 @@ use Rattle.arithmetic.specs.Kept.{keptTests}
 use Rattle.arithmetic.specs.Scalar.{testOf, wasPlanar}
 use Rattle.arithmetic.proofs.KeptLaws.{Accepted, kept-accepted}
 use Rattle.arithmetic.proofs.InverseLaws.{gives-not-kept, gives-no-inverse, gives-inverse}
+use Rattle.arithmetic.proofs.OrderPassed.{passed-none}
 use Rattle.arithmetic.proofs.inverse.inverted.Statement.{statement}
 use Rattle.arithmetic.proofs.inverse.inverted.Tie as tie
 
@@ -51,8 +52,11 @@ returns-2 c =
     let a = start d .args in
     gives-no-inverse (a .shape) (a .a .now) (c .refused2 .result) (a .out .now) (kept d) (sym (asked (c .before .before)) ∙ c .before .if2 .taken) (c .refused2 .ensures)
 
+slice-aggregate-put-inverse : tie.Need-slice-aggregate-put-inverse
+slice-aggregate-put-inverse c = search needs
+
 put-inverse-requires : tie.Need-put-inverse-requires
-put-inverse-requires c κs = let f = value-accepted (c .before .before .before .before) in (f .small, f .counted, f .roomy)
+put-inverse-requires c κs = let f = value-accepted (c .before .before .before .before .before) in (passed-none _, (f .small, f .counted, f .roomy))
 
 done-requires : tie.Need-done-requires
 done-requires c κs = search needs
@@ -62,8 +66,8 @@ same-length c = search needs
 
 returns-3 : tie.Need-returns-3
 returns-3 c =
-    let p = c .before .before .before .before .before in
-    let d = p .before .before .before in
+    let p = c .before .before .before .before .before .before in
+    let d = c .before .before .before .before .before .before .before .before .before in
     let a = start d .args in
     gives-inverse (a .shape) (a .a .now) (c .done .result) (a .out .now) _ (kept d) (sym (asked (p .before)) ∙ p .if2 .left) (c .done .ensures) (c .before .before .before .put-inverse .ensures)
 
@@ -78,6 +82,7 @@ inverted-spec =
     was-planar-requires
     refused-requires-2
     returns-2
+    slice-aggregate-put-inverse
     put-inverse-requires
     done-requires
     same-length

@@ -37,7 +37,7 @@ general-by s a out t u e g =
     ap (λ (v : ScalarTest). laid (ifScalar v (bySquare (getD a 0 nan) (lessScalar a)) (nanified (s .dims))) out) (sym g ∙ e)
 
 test-square-requires : tie.Need-test-square-requires
-test-square-requires c κs = search needs
+test-square-requires c κs = let s = c .before .before .before in (s .pre .0, (s .pre .1 .0, s .pre .1 .1))
 
 enum-known-test : tie.Need-enum-known-test
 enum-known-test c = search needs
@@ -47,9 +47,9 @@ set-dims-requires c κs = search needs
 
 put-by-square-requires : tie.Need-put-by-square-requires
 put-by-square-requires c κs =
-    let s = c .before .before .before .before .before .before .before .before .before .before .before in
+    let s = c .before .before .before .before .before .before .before .before .before .before .before .before in
     let l : length (c .before .before .before .set-dims .last .1 .1 .1 .0) ≡ length (s .args .out .now) = c .before .before .before .set-dims .kept .1 .1 .1 .0 in
-    (omega (arith, s .pre .1, pow-pos (s .args .shape .dims)), omega (arith, l, s .pre .1, s .pre .2))
+    (omega (arith, s .pre .1 .1, pow-pos (s .args .shape .dims)), omega (arith, l, s .pre .1 .1, s .pre .1 .2))
 
 enum-told : tie.Need-enum-told
 enum-told c = search needs
@@ -70,10 +70,10 @@ returns : tie.Need-returns
 unfolding ifScalar
 returns c =
     let d = c .before .before .before .before .before .before in
-    let t = d .before .before .before in
-    let s = t .before .before .before .before .before in
+    let t = c .before .before .before .before .before .before .before .before .before in
+    let s = c .before .before .before .before .before .before .before .before .before .before .before .before .before .before .before in
     let a = s .args in
-    by-copy (a .shape) (a .a .now) (d .set-dims .result) (a .out .now) (d .set-dims .last .1 .1 .1 .0) _ (t .test .given .0 .0) (d .set-dims .ensures) (record { small = s .pre .0; counted = s .pre .1; roomy = s .pre .2 }) (c .before .before .put-by-square .ensures)
+    by-copy (a .shape) (a .a .now) (d .set-dims .result) (a .out .now) (d .set-dims .last .1 .1 .1 .0) _ (t .test .given .0 .0) (d .set-dims .ensures) (record { small = s .pre .1 .0; counted = s .pre .1 .1; roomy = s .pre .1 .2 }) (c .before .before .put-by-square .ensures)
     ∙ general-by (a .shape) (a .a .now) (a .out .now) _ _ (t .before .before .test-square .ensures) (t .test .given .1)
 
 same-length-2 : tie.Need-same-length-2
@@ -83,7 +83,7 @@ returns-2 : tie.Need-returns-2
 unfolding ifScalar
 returns-2 c =
     let t = c .before .before .before .before in
-    let a = t .before .before .before .before .before .args in
+    let a = c .before .before .before .before .before .before .before .before .before .before .args in
     c .before .before .put-nan .ensures ∙ general-by (a .shape) (a .a .now) (a .out .now) _ _ (t .before .before .test-square .ensures) (t .enum-told .given .1)
 
 same-length-3 : tie.Need-same-length-3
@@ -93,7 +93,7 @@ returns-3 : tie.Need-returns-3
 unfolding ifScalar
 returns-3 c =
     let t = c .before .before .before .before in
-    let a = t .before .before .before .before .before .args in
+    let a = c .before .before .before .before .before .before .before .before .before .before .args in
     c .before .before .put-nan2 .ensures ∙ general-by (a .shape) (a .a .now) (a .out .now) _ _ (t .before .before .test-square .ensures) (t .enum-told2 .given .1)
 
 pub put-general-spec : {M : Type 1} → statement M

@@ -31,7 +31,7 @@ enum-told-2 : tie.Need-enum-told-2
 enum-told-2 c = search needs
 
 put-general-requires : tie.Need-put-general-requires
-put-general-requires c κs = search needs
+put-general-requires c κs = let s = c .before .before .before .before .before .before .before in (s .pre .0, (s .pre .1 .0, s .pre .1 .1, s .pre .1 .2))
 
 same-length : tie.Need-same-length
 same-length c = search needs
@@ -40,13 +40,13 @@ returns : tie.Need-returns
 unfolding inverseBy
 returns c =
     let t = c .before .before .before .before .before in
-    let a = t .before .before .before .before .before .args in
+    let a = c .before .before .before .before .before .before .before .before .before .before .before .args in
     c .before .before .put-reciprocal .ensures ∙ inverse-by (a .shape) (a .a .now) (a .out .now) _ _ (t .before .before .test-of .ensures) (t .test .given .1)
 
 returns-2 : tie.Need-returns-2
 unfolding inverseBy
 returns-2 c =
-    let a = c .before .before .before .before .before .args in
+    let a = c .before .before .before .before .before .before .args in
     inverse-by (a .shape) (a .a .now) (a .out .now) _ _ (c .before .before .test-of .ensures) (c .enum-told .given .1)
 
 same-length-2 : tie.Need-same-length-2
@@ -56,7 +56,7 @@ returns-3 : tie.Need-returns-3
 unfolding inverseBy
 returns-3 c =
     let t = c .before .before .before .before in
-    let a = t .before .before .before .before .before .args in
+    let a = c .before .before .before .before .before .before .before .before .before .before .args in
     c .before .before .put-general .ensures ∙ inverse-by (a .shape) (a .a .now) (a .out .now) _ _ (t .before .before .test-of .ensures) (t .enum-told2 .given .1)
 
 pub put-inverse-spec : {M : Type 1} → statement M

@@ -59,43 +59,40 @@ same-length c = search needs
 
 returns : tie.Need-returns
 returns c =
-    let t = c .before .before .before .before in
-    let s = t .before .before .before in
+    let e = c .before .before .before .before .if1 .taken in
+    let s = c .before .before .before .before .before .before .before .before in
     let a = s .args in
-    laid-as (a .out .now) (raised-one (a .shape) (a .power) (a .x .now) (t .if1 .taken))
+    laid-as (a .out .now) (raised-one (a .shape) (a .power) (a .x .now) e)
     (copied-front (a .shape) (a .x .now) (a .out .now) _ (c .before .before .set-dims .result)
-    (record { small = s .pre .0 .1; counted = s .pre .1 .0; roomy = room (dims-one (a .shape) (a .power) (a .x .now) (t .if1 .taken)) (s .pre .1 .1) }) (c .before .before .set-dims .ensures))
+    (record { small = s .pre .1 .0 .1; counted = s .pre .1 .1 .0; roomy = room (dims-one (a .shape) (a .power) (a .x .now) e) (s .pre .1 .1 .1) }) (c .before .before .set-dims .ensures))
 
 put-square-requires : tie.Need-put-square-requires
 put-square-requires c κs =
-    let t = c .before in
-    let s = t .before .before .before .before in
-    (s .pre .0 .1, s .pre .1 .0, room (dims-two (s .args .shape) (s .args .power) (s .args .x .now) (t .before .if1 .left) (t .if2 .taken)) (s .pre .1 .1))
+    let s = c .before .before .before .before .before .before in
+    let d = dims-two (s .args .shape) (s .args .power) (s .args .x .now) (c .before .before .if1 .left) (c .before .if2 .taken) in
+    (s .pre .0, (s .pre .1 .0 .1, s .pre .1 .1 .0, room d (s .pre .1 .1 .1)))
 
 same-length-2 : tie.Need-same-length-2
 same-length-2 c = search needs
 
 returns-2 : tie.Need-returns-2
 returns-2 c =
-    let t = c .before .before .before .before in
-    let a = t .before .before .before .before .args in
-    laid-as (a .out .now) (raised-two (a .shape) (a .power) (a .x .now) (t .before .if1 .left) (t .if2 .taken)) (c .before .before .put-square .ensures)
+    let a = c .before .before .before .before .before .before .before .before .before .args in
+    laid-as (a .out .now) (raised-two (a .shape) (a .power) (a .x .now) (c .before .before .before .before .before .if1 .left) (c .before .before .before .before .if2 .taken)) (c .before .before .put-square .ensures)
 
 raise-by-digits-requires : tie.Need-raise-by-digits-requires
 raise-by-digits-requires c κs =
-    let t = c .before in
-    let s = t .before .before .before .before in
-    let d = dims-other (s .args .shape) (s .args .power) (s .args .x .now) (t .before .if1 .left) (t .if2 .left) in
-    ((omega (arith, d, s .pre .0 .0), s .pre .0 .2), (s .pre .1 .0, room d (s .pre .1 .1)))
+    let s = c .before .before .before .before .before .before in
+    let d = dims-other (s .args .shape) (s .args .power) (s .args .x .now) (c .before .before .if1 .left) (c .before .if2 .left) in
+    (s .pre .0, ((omega (arith, d, s .pre .1 .0 .0), s .pre .1 .0 .2), (s .pre .1 .1 .0, room d (s .pre .1 .1 .1))))
 
 same-length-3 : tie.Need-same-length-3
 same-length-3 c = search needs
 
 returns-3 : tie.Need-returns-3
 returns-3 c =
-    let t = c .before .before .before .before in
-    let a = t .before .before .before .before .args in
-    laid-as (a .out .now) (raised-other (a .shape) (a .power) (a .x .now) (t .before .if1 .left) (t .if2 .left)) (c .before .before .raise-by-digits .ensures)
+    let a = c .before .before .before .before .before .before .before .before .before .args in
+    laid-as (a .out .now) (raised-other (a .shape) (a .power) (a .x .now) (c .before .before .before .before .before .if1 .left) (c .before .before .before .before .if2 .left)) (c .before .before .raise-by-digits .ensures)
 
 pub raise-spec : {M : Type 1} → statement M
 raise-spec =

@@ -1,4 +1,4 @@
--- `arithmetic::power::square_front` meets its contract: the square goes to a buffer, which is copied back. Assumes nothing.
+-- `arithmetic::power::square_front` meets its contract: the square goes to the array that is lent, which is copied back. Assumes nothing.
 use mathlib.Core.Path.{_≡_, ap, _∙_}
 use mathlib.Core.List.{List}
 use Prim.Native.Nat.{ℕ, _-_, _^_, _≤_}
@@ -11,7 +11,6 @@ use Rattle.masks.specs.declared.outcome.Answer.{Answer}
 use Rattle.masks.specs.declared.shape.Shape.{Shape}
 use Rattle.masks.specs.Outcome.{Gives, laid}
 use Rattle.masks.specs.Shape.{setDims}
-use Rattle.masks.proofs.OrderLaws.{blades-le}
 use Rattle.product.specs.declared.mode.Mode.the-variants.{All}
 use Rattle.product.proofs.PairwiseLaws.{product-length}
 use Rattle.arithmetic.specs.Inverse.{squareOf}
@@ -34,14 +33,11 @@ part-put-square-start c = search needs
 part-put-square-end : tie.Need-part-put-square-end
 part-put-square-end c = search needs
 
-slice-aggregate-put-square : tie.Need-slice-aggregate-put-square
-slice-aggregate-put-square c = search needs
-
 put-square-requires : tie.Need-put-square-requires
 put-square-requires c κs =
-    let s = c .before .before .before .before in
-    let n : s .args .n - 0 ≡ 2 ^ s .args .shape .dims = omega (arith, s .pre .1) in
-    (s .pre .0, length-take-le (s .args .n - 0) (s .args .base .now) (omega (arith, s .pre .2)) ∙ n, blades-le _ (s .pre .0))
+    let s = c .before .before .before .before .before .before in
+    let n : s .args .n - 0 ≡ 2 ^ s .args .shape .dims = omega (arith, s .pre .1 .1) in
+    (s .pre .0, (s .pre .1 .0, length-take-le (s .args .n - 0) (s .args .base .now) (omega (arith, s .pre .1 .2)) ∙ n, omega (arith, s .pre .1 .1, s .pre .1 .3)))
 
 sub-set-dims : tie.Need-sub-set-dims
 sub-set-dims c = search needs
@@ -50,9 +46,7 @@ part-set-dims-start : tie.Need-part-set-dims-start
 part-set-dims-start c = search needs
 
 part-set-dims-end : tie.Need-part-set-dims-end
-part-set-dims-end c =
-    let s = c .before .before .before .before .before .before .before in
-    omega (arith, s .pre .1, blades-le _ (s .pre .0))
+part-set-dims-end c = omega (arith, c .before .before .before .before .before .before .before .before .before .before .pre .1 .3, c .before .before .before .put-square .kept .1 .1 .1 .0)
 
 set-dims-requires : tie.Need-set-dims-requires
 set-dims-requires c κs = search needs
@@ -60,12 +54,15 @@ set-dims-requires c κs = search needs
 same-length : tie.Need-same-length
 same-length c = search needs
 
+same-length-2 : tie.Need-same-length-2
+same-length-2 c = search needs
+
 returns : tie.Need-returns
 returns c =
-    let s = c .before .before .before .before .before .before .before .before .before .before .before .before in
+    let s = c .before .before .before .before .before .before .before .before .before .before .before .before .before .before .before in
     let n : s .args .n - 0 ≡ s .args .n = omega arith in
-    replaced (s .args .shape) (s .args .n - 0) (s .args .n) _ _ (s .args .base .now) _ (c .before .before .set-dims .result) (s .pre .0) (s .pre .1) n (omega (arith, s .pre .2))
-    (c .before .before .before .before .before .before .before .put-square .ensures) (c .before .before .set-dims .ensures)
+    replaced (s .args .shape) (s .args .n - 0) (s .args .n) _ _ (s .args .base .now) _ (c .before .before .set-dims .result) (s .pre .1 .0) (s .pre .1 .1) n (omega (arith, s .pre .1 .2))
+    (c .before .before .before .before .before .before .before .before .put-square .ensures) (c .before .before .set-dims .ensures)
 
 pub square-front-spec : {M : Type 1} → statement M
 square-front-spec =
@@ -74,11 +71,11 @@ square-front-spec =
     sub-put-square
     part-put-square-start
     part-put-square-end
-    slice-aggregate-put-square
     put-square-requires
     sub-set-dims
     part-set-dims-start
     part-set-dims-end
     set-dims-requires
     same-length
+    same-length-2
     returns)
