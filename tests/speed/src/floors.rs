@@ -81,6 +81,6 @@ pub const SMALL: &[Small] = &[
     small("metric", "every kind in rotation", metric, 2, 1.3), // 1.35 to 1.89, 2.58, 1.81
     small("added_dims", "every kind in rotation", added_dims, 2, 0.3), // 1.35 to 1.62, 1.35, 0.61
     small("scalar_test", "a scalar", scalar_test, 2, 2.0), // 1.35 to 1.89, 3.31, 3.08
-    small("eq", "no scalars", |d| eq(dense(Projective, d)), 9, 3.0), // 1.57 to 1.89, 4.33, 2.74
-    small("cmp", "different values", |d| cmp(dense(Projective, d)), 9, 3.2), // 1.62 to 1.89, 4.60, 3.29
+    small("eq", "no scalars", |d| eq(dense(Projective, d)), 9, 2.2), // 1.57 to 1.89, 3.52, 2.74
+    small("cmp", "different values", |d| cmp(dense(Projective, d)), 9, 2.1), // 1.62 to 1.89, 3.40, 3.30
 ];
