@@ -1,4 +1,4 @@
--- The metric of a pair by counts of ones, which is how the code works it out. A reader need not believe this page: `pair_metric` is held to specs/Mode. Assumes nothing.
+-- The metric of a pair by counts of ones, which is how the code works it out. A reader need not believe this page: `pair-live` and `pair-minus` (proofs/MetricLaws) hold it to specs/Mode. Assumes nothing.
 use mathlib.Core.Bool.{Bool, not, cond}
 use Prim.Native.Nat.{ℕ, zero, suc, _+_, _%_, _^_}
 use lib.Bits.{bitAnd, bitXor}
