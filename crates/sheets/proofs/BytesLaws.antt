@@ -2,7 +2,7 @@
 use mathlib.Core.Path.{_≡_, refl, sym, ap, ap₂, _∙_}
 use mathlib.Core.List.{List, [], _∷_, _++_, map, append-assoc, append-nil}
 use Prim.Native.Nat.{ℕ, zero, suc, _+_, _*_, _/_, _%_, _^_, _≤_, _<_, suc-le-suc}
-use native.Mathlib.Nat.{le-of-suc-le-suc, not-suc-le-zero, mul-zero, mul-suc, add-comm, zero-lt-suc, pow-suc, le-of-lt}
+use native.Mathlib.Nat.{le-of-suc-le-suc, not-suc-le-zero, mul-zero, mul-suc, add-comm, zero-lt-suc, pow-suc, mul-assoc, le-of-lt}
 use native.Mathlib.Numerals.{add-one}
 use native.Mathlib.Omega.{arith}
 use lib.ListN.{length, getD, take, drop, length-append, length-drop}
@@ -52,6 +52,13 @@ take-bytes (suc n) (x ∷ xs) h (suc i) = take-bytes n xs (λ j. h (suc j)) i
 
 pub drop-bytes : (n : ℕ) (b : List ℕ) → AreBytes b → AreBytes (drop n b)
 drop-bytes n b h i = rw (getD-drop n b i 0) (h (n + i))
+
+-- the number of bytes below others
+pub number-append : (b c : List ℕ) → fromLittleEndian (b ++ c) ≡ fromLittleEndian b + 256 ^ length b * fromLittleEndian c
+unfolding fromLittleEndian
+number-append [] c = omega arith
+number-append (x ∷ b) c =
+    omega (arith, number-append b c, ap (λ (k : ℕ). k * fromLittleEndian c) (pow-suc 256 (length b)), mul-assoc (256 ^ length b) 256 (fromLittleEndian c))
 
 -- the number of one byte more, below the others
 pub number-down : (b : List ℕ) (at n : ℕ) → at < length b → fromLittleEndian (take (suc n) (drop at b)) ≡ getD b at 0 + 256 * fromLittleEndian (take n (drop (suc at) b))
@@ -149,3 +156,15 @@ allBytes-parts f g k (suc n) b e =
     let first : f (g (take k b)) ≡ take k b = rw mul-zero at (e 0 (zero-lt-suc n)) in
     let rest : (i : ℕ) → i < n → f (g (take k (drop (k * i) (drop k b)))) ≡ take k (drop (k * i) (drop k b)) = λ i l. rw (drop-part k i b) (e (suc i) (suc-le-suc l)) in
     rw (mul-suc k n, add-comm (k * n) k, take-add k (k * n) b, first, allBytes-parts f g k n (drop k b) rest)
+
+-- parts among parts
+pub parts-inside : (k n s m : ℕ) (b : List ℕ) → s + m ≤ n → take m (drop s (parts k n b)) ≡ parts k m (drop (k * s) b)
+unfolding parts
+parts-inside k n zero zero b h = refl
+parts-inside k zero zero (suc m) b h = absurd (omega arith)
+parts-inside k (suc n) zero (suc m) b h =
+    rw (mul-zero k) (ap (λ (l : List (List ℕ)). take k b ∷ l) (parts-inside k n 0 m (drop k b) (omega arith) ∙ rw (mul-zero k)))
+parts-inside k zero (suc s) m b h = absurd (omega arith)
+parts-inside k (suc n) (suc s) m b h =
+    let e : k + k * s ≡ k * suc s = omega (arith, mul-suc k s) in
+    parts-inside k n s m (drop k b) (omega arith) ∙ ap (parts k m) (drop-drop (k * s) k b ∙ ap (λ (j : ℕ). drop j b) e)

@@ -2,18 +2,20 @@
 use mathlib.Core.Path.{_≡_, refl, sym, ap, _∙_}
 use mathlib.Core.Bool.{not}
 use mathlib.Core.List.{List, [], _∷_, map}
-use Prim.Native.Nat.{ℕ, suc, _+_, _^_, _≤_, _<_, suc-le-suc}
+use Prim.Native.Nat.{ℕ, suc, _+_, _*_, _/_, _%_, _^_, _≤_, _<_, suc-le-suc}
 use native.Mathlib.Nat.{zero-lt-suc}
 use native.Mathlib.Omega.{arith}
-use borrow.Author.Tests.{lt-ltb, le-ltb}
+use borrow.Author.Tests.{lt-ltb, le-ltb, eq-eqb, ne-eqb}
 use lib.Dec.{T}
 use lib.Ieee.{Float, nan, inf, fin, binary64, fits, isNan, nanBits, ofBits, toBits}
 use lib.Ieee.Bits.{ofBits-toBits, toBits-ofBits, nanBits-is}
-use lib.ListN.{length, getD, set, length-map}
-use Rattle.masks.specs.Outcome.{refusal, Writes}
+use lib.ListN.{length, getD, set, take, drop, length-map}
+use Rattle.masks.specs.Outcome.{refusal, unless, Writes}
 use Rattle.masks.proofs.ListLaws.{getD-map, front, front-length, front-step, front-all}
 use Rattle.masks.proofs.OutcomeLaws.{writes-refused, writes-done}
-use Rattle.sheets.specs.Patterns.{converted}
+use Rattle.sheets.specs.Bytes.{fromLittleEndian, parts}
+use Rattle.sheets.specs.Patterns.{converted, numbersOf, patternsIn, numbersIn}
+use Rattle.sheets.proofs.BytesLaws.{parts-length, getD-parts}
 
 -- a pattern that is no NaN's comes back
 pub pattern-back : (x : ℕ) → x < 2 ^ 64 → T (not (nanBits binary64 x)) → toBits binary64 (ofBits binary64 x) ≡ x
@@ -74,3 +76,20 @@ module _ {A B : Type 0} (f : A → B) (xs : List A) (out : List B) where
     pub converted-done : i ≡ length xs → Writes (converted f xs (length out)) (record { number = 0; count = length xs }) out now
     unfolding converted refusal
     converted-done h = writes-done _ 0 _ _ out now (rw (le-ltb _ _ room)) refl (rw (length-map xs f)) (e ∙ front-all i (map f xs) out (omega (arith, length-map xs f)))
+
+-- ---- patterns that are bytes
+
+pub patterns-in-length : (b : List ℕ) → length (patternsIn b) ≡ length b / 8
+patterns-in-length b = length-map (parts 8 (length b / 8) b) fromLittleEndian ∙ parts-length 8 (length b / 8) b
+
+pub pattern-in : (b : List ℕ) (i : ℕ) → i < length b / 8 → getD (patternsIn b) i 0 ≡ fromLittleEndian (take 8 (drop (8 * i) b))
+pattern-in b i h = getD-map fromLittleEndian (parts 8 (length b / 8) b) i [] 0 (omega (arith, parts-length 8 (length b / 8) b)) ∙ ap fromLittleEndian (getD-parts 8 (length b / 8) b i h)
+
+-- bytes that are not eight to a pattern are refused; others give the numbers of their patterns
+pub in-refused : (b : List ℕ) (out : List Float) → (length b % 8 ≡ 0 → ⊥) → Writes (numbersIn b (length out)) (record { number = 2; count = 0 }) out out
+unfolding numbersIn refusal
+in-refused b out h = writes-refused _ 2 _ _ out (rw (ne-eqb (length b % 8) 0 h)) (λ q. omega arith) refl
+
+pub in-eights : (b : List ℕ) (room : ℕ) → length b % 8 ≡ 0 → numbersIn b room ≡ numbersOf (patternsIn b) room
+unfolding numbersIn refusal unless
+in-eights b room e = rw (eq-eqb (length b % 8) 0 e)

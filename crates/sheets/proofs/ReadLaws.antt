@@ -18,8 +18,8 @@ use Rattle.masks.proofs.ListLaws.{getD-map, both-true}
 use Rattle.sheets.specs.declared.read.SheetRead.{SheetRead}
 use Rattle.sheets.specs.Bytes.{littleEndian, fromLittleEndian, section, parts, countIn, itemsIn, afterSection}
 use Rattle.sheets.specs.Format.{Sheet, shapeIn, patternBytes, sheetBytes, bladeTotal, anyAboveNine}
-use Rattle.sheets.specs.Read.{said, isSheet, isSheetBytes, ReadOutcome, refusedSheet, aSheet, readSheet, Reads}
-use Rattle.sheets.specs.inner.Checks.{isShape, areShapes, checked}
+use Rattle.sheets.specs.Read.{said, isSheet, isSheetBytes, ReadOutcome, refusedSheet, aSheet, readSheet, checked, Reads}
+use Rattle.sheets.specs.inner.Checks.{isShape, areShapes}
 use Rattle.sheets.proofs.BytesLaws.{AreBytes, littleEndian-number, take-bytes, drop-bytes, items-section, parts-length, getD-parts, parts-take, allBytes-parts}
 use Rattle.sheets.proofs.FormatLaws.{five-length, five-back, sheetBytes-length, same-true, same-refl, dims-at, sheet-within, within-sheet}
 

@@ -22,9 +22,8 @@ use Rattle.sheets.specs.declared.shapes.Shapes.{Shapes}
 use Rattle.sheets.specs.Bytes.{fromLittleEndian, allBytes, section, parts, itemsIn, afterSection}
 use Rattle.sheets.specs.Format.{Sheet, shapeIn, patternBytes, sheetBytes, bladeTotal}
 use Rattle.sheets.specs.Shapes.{shapesOf, listedShapes, saidShapes}
-use Rattle.sheets.specs.Read.{said, isSheet, isSheetBytes, malformed, ReadOutcome, readSheetTests, readSheet, aSheet, refusedSheet, Reads}
+use Rattle.sheets.specs.Read.{said, isSheet, isSheetBytes, malformed, ReadOutcome, readSheetTests, readSheet, checked, aSheet, refusedSheet, Reads}
 use Rattle.sheets.specs.Write.{sheetOf, writeSheetTests, writeSheet}
-use Rattle.sheets.specs.inner.Checks.{checked}
 use Rattle.sheets.proofs.BytesLaws.{AreBytes, littleEndian-length, number-littleEndian, number-lt, take-bytes, drop-bytes, allBytes-length, parts-allBytes, items-section, after-section}
 use Rattle.sheets.proofs.FormatLaws.{five-length, five-back, same-refl, sheet-within, within-sheet}
 use Rattle.sheets.proofs.PatternsLaws.{map-back}

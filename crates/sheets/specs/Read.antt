@@ -51,6 +51,10 @@ readSheetTests b room = malformed b ∷ noRoom room (length (said b .patterns)) 
 unfoldable pub readSheet : List ℕ → ℕ → ReadOutcome
 readSheet b room = unless refusedSheet (refusal (readSheetTests b room)) (aSheet (said b))
 
+-- Where no pattern is wanted, 9 alone: the shapes, and how many patterns there are.
+unfoldable pub checked : List ℕ → ReadOutcome
+checked b = unless refusedSheet (refusal (malformed b ∷ [])) (aSheet (said b))
+
 -- ---- as the answer
 
 -- The answer has the number, the shapes and the count of the patterns; the patterns are in the output.

@@ -25,6 +25,23 @@ pub(crate) fn number_at(bytes: &[u8], at: usize, count: usize) -> u64
     x
 }
 
+// The number that the four bytes from the place `at` on stand for.
+fn half_at(bytes: &[u8], at: usize) -> u64
+    requires { ⌜ at + 4 ≤ length (now bytes) ⌝ }
+    ensures { λ r. ⌜ r ≡ fromLittleEndian (take 4 (drop at (now (bytes .entry)))) ⌝ }
+{
+    wide(bytes[at])
+        + 256 * (wide(bytes[at + 1]) + 256 * (wide(bytes[at + 2]) + 256 * wide(bytes[at + 3])))
+}
+
+// The pattern that the eight bytes from the place `at` on stand for.
+pub(crate) fn pattern_at(bytes: &[u8], at: usize) -> u64
+    requires { ⌜ at + 8 ≤ length (now bytes) ⌝ }
+    ensures { λ r. ⌜ r ≡ fromLittleEndian (take 8 (drop at (now (bytes .entry)))) ⌝ }
+{
+    half_at(bytes, at) + 4294967296 * half_at(bytes, at + 4)
+}
+
 // A number in `count` bytes, from the place `at` on.
 pub(crate) fn put_number(number: u64, count: usize, at: usize, out: &mut [u8])
     requires { ⌜ at + count ≤ length (now out) ⌝ }

@@ -1,5 +1,6 @@
 // Reading a sheet.
 use super::bytes::number_at;
+use super::bytes::pattern_at;
 use super::shapes::MAX_COEFFICIENTS;
 use super::shapes::MAX_SHAPES;
 use super::shapes::Shapes;
@@ -16,8 +17,8 @@ ghost use Prim.Native.Nat.{_+_, _*_, _≤_};
 ghost use lib.ListN.{length, take, drop};
 ghost use Rattle.masks.specs.Outcome.{laid};
 ghost use Rattle.sheets.specs.Bytes.{fromLittleEndian, parts};
-ghost use Rattle.sheets.specs.Read.{said, refusedSheet, readOf, Reads, readSheet};
-ghost use Rattle.sheets.specs.inner.Checks.{isShape, areShapes, checked};
+ghost use Rattle.sheets.specs.Read.{said, refusedSheet, readOf, Reads, readSheet, checked};
+ghost use Rattle.sheets.specs.inner.Checks.{isShape, areShapes};
 
 // A sheet: its patterns are in the caller's output.
 pub struct SheetRead {
@@ -80,8 +81,8 @@ fn refused_sheet(number: u8) -> SheetRead
     }
 }
 
-// The shapes of a sheet and the count of its patterns, which are not read yet; or the refusal of what is not a sheet.
-fn check(bytes: &[u8]) -> SheetRead
+// The shapes of the sheet that bytes are, and how many patterns it has.
+pub fn check(bytes: &[u8]) -> SheetRead
     ensures { λ r. ⌜ r ≡ readOf (checked (now (bytes .entry))) ⌝ }
 {
     if bytes.len() < 2 {
@@ -123,7 +124,7 @@ fn put_patterns(bytes: &[u8], at: usize, n: usize, out: &mut [u64])
 {
     let mut i: usize = 0;
     while i < n {
-        out[i] = number_at(bytes, at + 8 * i, 8);
+        out[i] = pattern_at(bytes, at + 8 * i);
         i += 1;
     }
 }

@@ -14,8 +14,8 @@ use Rattle.sheets.specs.declared.read.SheetRead.{SheetRead}
 use Rattle.sheets.specs.Bytes.{fromLittleEndian, parts, itemsIn}
 use Rattle.sheets.specs.Format.{bladeTotal, anyAboveNine}
 use Rattle.sheets.specs.Shapes.{shapesOf, saidShapes}
-use Rattle.sheets.specs.Read.{said, refusedSheet, aSheet, readOf}
-use Rattle.sheets.specs.inner.Checks.{areShapes, checked}
+use Rattle.sheets.specs.Read.{said, refusedSheet, aSheet, checked, readOf}
+use Rattle.sheets.specs.inner.Checks.{areShapes}
 use Rattle.sheets.proofs.ShapesLaws.{listed-shapesOf, saidShapes-part}
 use Rattle.sheets.proofs.ReadLaws.{shapesSaid, patternsSaid, shapes-count, patterns-count, WellFormed, shapes-small, checked-refused, checked-done}
 use Rattle.sheets.proofs.read.check.Statement.{statement}

@@ -34,14 +34,14 @@ abbrev μ-loop : tie.MeasureT-loop
 loop-holds : tie.Need-loop-holds Inv-loop μ-loop
 loop-holds c = (omega arith, refl)
 
-mul-number-at : tie.Need-mul-number-at Inv-loop μ-loop
-mul-number-at c = omega arith
+mul-pattern-at : tie.Need-mul-pattern-at Inv-loop μ-loop
+mul-pattern-at c = omega arith
 
-add-number-at : tie.Need-add-number-at Inv-loop μ-loop
-add-number-at c = omega arith
+add-pattern-at : tie.Need-add-pattern-at Inv-loop μ-loop
+add-pattern-at c = omega arith
 
-number-at-requires : tie.Need-number-at-requires Inv-loop μ-loop
-number-at-requires c κs = (omega arith, omega arith)
+pattern-at-requires : tie.Need-pattern-at-requires Inv-loop μ-loop
+pattern-at-requires c κs = omega arith
 
 mul-out : tie.Need-mul-out Inv-loop μ-loop
 mul-out c = omega arith
@@ -62,7 +62,7 @@ loop-again : tie.Need-loop-again Inv-loop μ-loop
 loop-again c =
     let l = c .before .before .loop in
     let a = c .before .before .before .before .before .args in
-    (omega arith, one-more (a .bytes .now) (a .at) (a .n) (l .i) (a .out .now) (l .out) (c .number-at .result) (omega arith) (omega arith) (l .inv .1) (c .number-at .ensures))
+    (omega arith, one-more (a .bytes .now) (a .at) (a .n) (l .i) (a .out .now) (l .out) (c .pattern-at .result) (omega arith) (omega arith) (l .inv .1) (c .pattern-at .ensures))
 
 same-length : tie.Need-same-length Inv-loop μ-loop
 same-length c =
@@ -83,9 +83,9 @@ put-patterns-spec =
     Inv-loop
     μ-loop
     loop-holds
-    mul-number-at
-    add-number-at
-    number-at-requires
+    mul-pattern-at
+    add-pattern-at
+    pattern-at-requires
     mul-out
     slice-write-out
     add-i

@@ -9,8 +9,7 @@ use lib.Seq.{drop-drop}
 use Rattle.masks.specs.Outcome.{laid}
 use Rattle.sheets.specs.declared.read.SheetRead.{SheetRead}
 use Rattle.sheets.specs.Bytes.{fromLittleEndian, parts}
-use Rattle.sheets.specs.Read.{said, refusedSheet, aSheet, readSheet, readOf, Reads}
-use Rattle.sheets.specs.inner.Checks.{checked}
+use Rattle.sheets.specs.Read.{said, refusedSheet, aSheet, readSheet, checked, readOf, Reads}
 use Rattle.sheets.proofs.ReadLaws.{shapesSaid, patternsSaid, patterns-count, WellFormed, checked-done, checked-cases, checked-well, read-malformed, read-no-room, read-done}
 use Rattle.sheets.proofs.read.read.Statement.{statement}
 use Rattle.sheets.proofs.read.read.Tie as tie
