@@ -349,3 +349,26 @@ pub record GoesRound : Type 0 where
 pub goes-round : GoesRound
 unfolding compared unless refusal testOf isScalar allZero isPlanar ifScalar comparedBy comparedNumbers comparedCounts comparedPlaces eq lt
 goes-round = record { first = refl; second = refl; third = refl }
+
+-- ---- flavors play no part in `==`
+
+if-any {ℓ} : {A : Type ℓ} (s u : Shape) (a : List Float) (f : Float → A) (y : A) → ifScalar (testOf s a) f y ≡ ifScalar (testOf u a) f y
+if-any s u a f y = go (isScalar a) refl
+  where
+    go : (t : Bool) → isScalar a ≡ t → ifScalar (testOf s a) f y ≡ ifScalar (testOf u a) f y
+    go true e = if-scalar s a f y e ∙ sym (if-scalar u a f y e)
+    go false e = if-other s a f y e ∙ sym (if-other u a f y e)
+
+agree-any : (s t u v : Shape) (a b : List Float) → answersAgree (testOf s a) (testOf t b) ≡ answersAgree (testOf u a) (testOf v b)
+unfolding answersAgree
+agree-any s t u v a b = go (isScalar a) refl
+  where
+    go : (c : Bool) → isScalar a ≡ c → answersAgree (testOf s a) (testOf t b) ≡ answersAgree (testOf u a) (testOf v b)
+    go true e = if-scalar s a (λ x. ifScalar (testOf t b) (eq x) false) _ e ∙ if-any t v b (eq (getD a 0 nan)) false ∙ sym (if-scalar u a (λ x. ifScalar (testOf v b) (eq x) false) _ e)
+    go false e = if-other s a _ (ifScalar (testOf t b) (λ y. false) true) e ∙ if-any t v b (λ y. false) true ∙ sym (if-other u a _ (ifScalar (testOf v b) (λ y. false) true) e)
+
+pub equals-dims : (s t : Shape) (a b : List Float) → equals (shapeOf (s .dims) Vanilla) (shapeOf (t .dims) Vanilla) a b ≡ equals s t a b
+unfolding equals
+equals-dims s t a b =
+    ap (λ (agree : Bool). unless refusedYesNo (refusal (comparedTests s t a b)) (record { number = 0; yes = agree || samePlaces a b }))
+    (agree-any (shapeOf (s .dims) Vanilla) (shapeOf (t .dims) Vanilla) s t a b)

@@ -3,15 +3,18 @@ use super::outcome::Ordered;
 use super::outcome::Ordering;
 use super::outcome::YesNo;
 use super::scalar::is_scalar;
+use masks::flavor::Flavor;
 use masks::outcome::DONE;
 use masks::outcome::pair_refusal;
+use masks::outcome::shape_of;
 use masks::shape::Shape;
 ghost use mathlib.Core.Path.{_≡_};
 ghost use mathlib.Core.Bool.{true, _||_};
 ghost use Prim.Native.Nat.{_+_, _^_, _≤_, _<_};
 ghost use lib.Ieee.{nan, eq};
 ghost use lib.ListN.{length, getD, drop};
-ghost use Rattle.masks.specs.Outcome.{refusal};
+ghost use Rattle.masks.specs.declared.flavor.Flavor.the-variants.{Vanilla};
+ghost use Rattle.masks.specs.Outcome.{refusal, shapeOf};
 ghost use Rattle.arithmetic.specs.Scalar.{isScalar, testOf};
 ghost use Rattle.arithmetic.specs.Compare.{comparedTests, answersAgree, sameNumber, samePlaces, equals, comparedNans, comparedNumbers, comparedPlaces, comparedLists, comparedBy, compared};
 
@@ -53,10 +56,12 @@ fn equal_values(left: Shape, right: Shape, a: &[f64], b: &[f64]) -> bool
     !is_scalar(b)
 }
 
-// `==` as the reference has it: any two values that are not scalar are equal.
-pub fn eq(left: Shape, right: Shape, a: &[f64], b: &[f64]) -> YesNo
-    ensures { λ r. ⌜ r ≡ equals left right (now (a .entry)) (now (b .entry)) ⌝ }
+// `==` of values of these dimensions: flavors play no part in it.
+fn eq_dims(dims: u8, other: u8, a: &[f64], b: &[f64]) -> YesNo
+    ensures { λ r. ⌜ r ≡ equals (shapeOf dims Vanilla) (shapeOf other Vanilla) (now (a .entry)) (now (b .entry)) ⌝ }
 {
+    let left = shape_of(dims, Flavor::Vanilla);
+    let right = shape_of(other, Flavor::Vanilla);
     let no = compare_refusal(left, right, a, b);
     if no != DONE {
         return YesNo {
@@ -68,6 +73,13 @@ pub fn eq(left: Shape, right: Shape, a: &[f64], b: &[f64]) -> YesNo
         number: DONE,
         yes: equal_values(left, right, a, b),
     }
+}
+
+// `==` as the reference has it: any two values that are not scalar are equal.
+pub fn eq(left: Shape, right: Shape, a: &[f64], b: &[f64]) -> YesNo
+    ensures { λ r. ⌜ r ≡ equals left right (now (a .entry)) (now (b .entry)) ⌝ }
+{
+    eq_dims(left.dims, right.dims, a, b)
 }
 
 // Where neither number is less: NaN is greatest.
