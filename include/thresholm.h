@@ -106,6 +106,7 @@
 #define THRESHOLM_NO_FLAVOR 7     /* flavor text is neither VGA nor PGA and does not begin with Cl, or is not ASCII */
 #define THRESHOLM_NO_SPEC 8       /* text after Cl is not a spec */
 #define THRESHOLM_MALFORMED 9     /* a rig sheet is malformed */
+#define THRESHOLM_BAD_LOG 10      /* a log has too many steps, one of no known kind or one that names no value of the sheet */
 
 /* The kinds of flavor. */
 #define THRESHOLM_VANILLA 0    /* every basis vector squares to 1 */
@@ -120,6 +121,18 @@
 #define THRESHOLM_MAX_SHAPE_BYTES 384   /* bytes of a list of shapes */
 #define THRESHOLM_MAX_SHEET_BYTES 33094 /* bytes of a sheet */
 #define THRESHOLM_MAX_FLAVOR_BYTES 14   /* bytes of a flavor's text */
+#define THRESHOLM_MAX_STEPS 200         /* steps of a log */
+#define THRESHOLM_MAX_LOG_BYTES 400     /* bytes of a log */
+
+/* The forms of a rig sheet. */
+#define THRESHOLM_FIRST_FORM 1 /* the one that there is */
+
+/* The kinds of a log's steps, and what their arguments are. */
+#define THRESHOLM_STEP_RIGHT 0   /* `*` on the right by the value at an index */
+#define THRESHOLM_STEP_LEFT 1    /* `*` on the left by the value at an index */
+#define THRESHOLM_STEP_REVERSE 2 /* reverse; the argument is not looked at */
+#define THRESHOLM_STEP_DIMS 3    /* change dimensions, to the argument */
+#define THRESHOLM_STEP_HALT 4    /* halt if equal to the value at an index */
 
 /* A shape: the dimensions, the flavor, and a byte that is written 0 and not looked at. */
 typedef struct thresholm_shape {
@@ -167,6 +180,9 @@ THRESHOLM_INLINE const char *thresholm_refusal_text(uint8_t number) {
             "digits";
     case THRESHOLM_NO_SPEC: return "after Cl come one to three whole numbers from 0 to 255, as in Cl 3 1";
     case THRESHOLM_MALFORMED: return "this is not a rig sheet, or it is damaged";
+    case THRESHOLM_BAD_LOG:
+        return "the log cannot be replayed: it has more than 200 steps, or a step of no known kind, or it names a "
+            "value that is not in the sheet, or the sheet has no values";
     default: return "no call returns this number";
     }
 }
@@ -601,6 +617,23 @@ THRESHOLM_NODISCARD uint8_t thresholm_numbers_of(const uint64_t *patterns, size_
  * 3: out_len below numbers_len. */
 THRESHOLM_NODISCARD uint8_t thresholm_patterns_of(const double *numbers, size_t numbers_len,
     uint64_t *THRESHOLM_RESTRICT out, size_t out_len, size_t *THRESHOLM_RESTRICT to_count);
+
+/* ---- Replay. The pose at a cue, worked out from the recorded cues: a log of steps over the values of a rig sheet,
+ * two bytes a step, kind and argument. The replay of a log's first k steps is the pose at cue k. */
+
+/* Replays a log: starts from value 0 of the sheet and carries out the steps, each as the call of its name does. A
+ * step that is refused stops the replay there: the call is done, with the pose from before that step. A halting step
+ * that fires counts as carried out, and what follows it is not. form: the form of the sheet, THRESHOLM_FIRST_FORM.
+ * sheet: the bytes of the sheet. log: the bytes of the log, two a step; at most THRESHOLM_MAX_LOG_BYTES. out:
+ * THRESHOLM_MAX_BLADES, whatever the pose. to_shape: the pose's shape. to_steps: how many steps were carried out,
+ * which is also the index of a step that was refused. to_stopped: the number that a step was refused with, or 0.
+ * 9: another form, or the sheet is malformed. 10: the sheet has no values, the log has more than THRESHOLM_MAX_STEPS
+ * steps, or one of its steps, also one behind a halt, is of no known kind (as an odd byte at the end is) or names a
+ * value that is not in the sheet. 3: out_len below THRESHOLM_MAX_BLADES. */
+THRESHOLM_NODISCARD uint8_t thresholm_replay(uint8_t form, const uint8_t *sheet, size_t sheet_len,
+    const uint8_t *log, size_t log_len, double *THRESHOLM_RESTRICT out, size_t out_len,
+    thresholm_shape *THRESHOLM_RESTRICT to_shape, size_t *THRESHOLM_RESTRICT to_steps,
+    uint8_t *THRESHOLM_RESTRICT to_stopped);
 
 #ifdef __cplusplus
 }

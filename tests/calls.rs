@@ -7,5 +7,5 @@ pub const CALLS: &[&str] = &[
     "blades_right", "unpack_all", "unpack_even", "unpack_odd", "unpack_own_even", "unpack_own_odd", "unpack_vector", "general_product",
     "left_contraction", "right_contraction", "inner_product", "outer_product", "mul", "add", "sub", "div", "mul_f64", "div_f64", "neg",
     "reverse", "inv_reverse", "dual", "antidual", "regressive_product", "inverted", "powi", "make_scalar_only", "squared_magnitude",
-    "take_scalar", "scalar_test", "eq", "cmp", "read", "write", "value_at", "numbers_of", "patterns_of",
+    "take_scalar", "scalar_test", "eq", "cmp", "read", "write", "value_at", "numbers_of", "patterns_of", "replay",
 ];

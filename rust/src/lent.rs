@@ -94,6 +94,13 @@
 //!
 //! [`read()`], [`write()`], [`value_at()`], [`numbers_of()`] and [`patterns_of()`].
 //!
+//! # Replay
+//!
+//! The pose at a cue, worked out from the recorded cues: a log of steps over the values of a rig sheet, two bytes a step, kind and argument.
+//! The replay of a log's first k steps is the pose at cue k.
+//!
+//! [`replay()`].
+//!
 //! # Safety
 //!
 //! This is the only module with `unsafe` code, and all of it rests on one ground: a slice is handed over as its own pointer and count, a shape, a
@@ -1365,6 +1372,35 @@ pub fn patterns_of(numbers: &[f64], out: &mut [u64]) -> Result<usize, Error> {
         sys::thresholm_patterns_of(numbers.as_ptr(), numbers.len(), out.as_mut_ptr(), out.len(), &mut to_count)
     };
     Error::reported(number, to_count)
+}
+
+/// Replays a log: starts from value 0 of the sheet and carries out the steps, each as the call of its name does.
+///
+/// A step that is refused stops the replay there: the call is done, with the pose from before that step. A halting step that fires counts as
+/// carried out, and what follows it is not.
+///
+/// Gives the pose's shape, how many steps were carried out, which is also the index of a step that was refused and the number that a step was
+/// refused with, or 0. `form`: the form of the sheet, 1. `sheet`: the bytes of the sheet. `log`: the bytes of the log, two a step; at most 400.
+/// `out`: 512, whatever the pose.
+///
+/// # Errors
+///
+/// - 9, [`Error::Malformed`]: another form, or the sheet is malformed.
+/// - 10, [`Error::BadLog`]: the sheet has no values, the log has more than 200 steps, or one of its steps, also one behind a halt, is of no
+///   known kind (as an odd byte at the end is) or names a value that is not in the sheet.
+/// - 3, [`Error::NoRoom`]: `out.len()` below 512.
+#[rustfmt::skip]
+pub fn replay(form: u8, sheet: &[u8], log: &[u8], out: &mut [f64]) -> Result<(Shape, usize, u8), Error> {
+    linked();
+    let (mut to_shape, mut to_steps, mut to_stopped) = ([0; 6], 0, 0);
+    // SAFETY: every pointer is of something that is borrowed for the call; see the module.
+    let number = unsafe {
+        sys::thresholm_replay(
+            form, sheet.as_ptr(), sheet.len(), log.as_ptr(), log.len(), out.as_mut_ptr(), out.len(),
+            to_shape.as_mut_ptr(), &mut to_steps, &mut to_stopped,
+        )
+    };
+    Error::reported(number, (Shape::from_bytes(to_shape), to_steps, to_stopped))
 }
 
 #[cfg(test)]

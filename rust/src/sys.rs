@@ -126,4 +126,10 @@ unsafe extern "C" {
     pub fn thresholm_value_at(shapes: *const u8, shapes_len: usize, index: usize, to_shape: *mut u8, to_start: *mut usize) -> u8;
     pub fn thresholm_numbers_of(patterns: *const u64, patterns_len: usize, out: *mut f64, out_len: usize, to_count: *mut usize) -> u8;
     pub fn thresholm_patterns_of(numbers: *const f64, numbers_len: usize, out: *mut u64, out_len: usize, to_count: *mut usize) -> u8;
+
+    // Replay.
+    pub fn thresholm_replay(
+        form: u8, sheet: *const u8, sheet_len: usize, log: *const u8, log_len: usize, out: *mut f64, out_len: usize, to_shape: *mut u8,
+        to_steps: *mut usize, to_stopped: *mut u8,
+    ) -> u8;
 }

@@ -11,6 +11,6 @@
     X(right_contraction) X(inner_product) X(outer_product) X(mul) X(add) X(sub) X(div) X(mul_f64) X(div_f64) \
     X(neg) X(reverse) X(inv_reverse) X(dual) X(antidual) X(regressive_product) X(inverted) X(powi) \
     X(make_scalar_only) X(squared_magnitude) X(take_scalar) X(scalar_test) X(eq) X(cmp) X(read) X(write) \
-    X(value_at) X(numbers_of) X(patterns_of)
+    X(value_at) X(numbers_of) X(patterns_of) X(replay)
 
 #endif

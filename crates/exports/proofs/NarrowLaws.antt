@@ -8,7 +8,8 @@ use Rattle.masks.specs.Outcome.{Outcome, Pair, Written, unless, laid}
 use Rattle.product.specs.Products.{Counted}
 use Rattle.arithmetic.specs.Kept.{Halves}
 use Rattle.sheets.specs.Read.{ReadOutcome}
-use Rattle.exports.specs.Reports.{reported, Reports, ReportsValue, ReportsPair, ReportsProduct, ReportsTaken, ReportsList}
+use Rattle.replay.specs.Replay.{Replayed}
+use Rattle.exports.specs.Reports.{reported, Reports, ReportsValue, ReportsPair, ReportsProduct, ReportsTaken, ReportsList, ReportsReplay}
 use Rattle.exports.specs.Order.{ReportsOrderOf}
 use Rattle.exports.specs.Sheet.{ReportsSheet}
 
@@ -37,6 +38,9 @@ one-taken t u = let q = one-reported (t .reports) (u .reports) in (q .0, q .1, t
 
 pub one-list : {A : Type 0} {o : Written A} {r s : ℕ} {before after other : List A} {held holds keeps : ℕ} → ReportsList o r before after held holds → ReportsList o s before other held keeps → (r ≡ s) × (holds ≡ keeps) × (after ≡ other)
 one-list t u = let q = one-reported (t .reports) (u .reports) in (q .0, q .1, t .left ∙ sym (u .left))
+
+pub one-replay : {o : Replayed} {r s : ℕ} {before after other : List Float} {held holds keeps : List ℕ × List ℕ} → ReportsReplay o r before after held holds → ReportsReplay o s before other held keeps → (r ≡ s) × (holds ≡ keeps) × (after ≡ other)
+one-replay t u = let q = one-reported (t .reports) (u .reports) in (q .0, q .1, t .left ∙ sym (u .left))
 
 pub one-sheet : {o : ReadOutcome} {r s : ℕ} {beforeShapes afterShapes otherShapes before after other held holds keeps : List ℕ} → ReportsSheet o r beforeShapes afterShapes before after held holds → ReportsSheet o s beforeShapes otherShapes before other held keeps → (r ≡ s) × (holds ≡ keeps) × (afterShapes ≡ otherShapes) × (after ≡ other)
 one-sheet t u = let q = one-reported (t .reports) (u .reports) in (q .0, q .1, t .shapes ∙ sym (u .shapes), t .left ∙ sym (u .left))

@@ -12,7 +12,9 @@ use Rattle.product.specs.declared.outcome.Product.{Product}
 use Rattle.product.specs.Products.{Counted, productOf, GivesProduct}
 use Rattle.arithmetic.specs.declared.outcome.Taken.{Taken}
 use Rattle.arithmetic.specs.Kept.{Halves, takenOf, GivesTaken}
-use Rattle.exports.specs.Reports.{reported, Reports, ReportsAnswer, ReportsAnswers, ReportsCount, ReportsPairs, ReportsScalar, ReportsValue, ReportsPair, ReportsProduct, ReportsTaken, ReportsList}
+use Rattle.replay.specs.declared.outcome.Replay.{Replay}
+use Rattle.replay.specs.Replay.{Replayed, replayOf, Replays}
+use Rattle.exports.specs.Reports.{reported, Reports, ReportsAnswer, ReportsAnswers, ReportsCount, ReportsPairs, ReportsScalar, ReportsSteps, ReportsValue, ReportsPair, ReportsProduct, ReportsTaken, ReportsList, ReportsReplay}
 
 -- ---- references
 
@@ -68,4 +70,11 @@ list-reported {A = A} {r = r} {before = before} {held = held} {holds = holds} e 
     record {
       reports = subst (λ (b : Count). ReportsCount b r held holds) (g .counted ∙ ap (λ (q : Written A). countOf q) e) reported;
       left = g .left ∙ ap (λ (q : Written A). laid (q .items) before) e;
+    }
+
+pub replay-reported : {o : Replayed} {a : Replay} {r : ℕ} {before after : List Float} {held holds : List ℕ × List ℕ} → Replays o a before after → ReportsSteps a r held holds → ReportsReplay o r before after held holds
+replay-reported {r = r} {held = held} {holds = holds} g reported =
+    record {
+      reports = subst (λ (b : Replay). ReportsSteps b r held holds) (g .answered) reported;
+      left = g .left;
     }

@@ -19,6 +19,8 @@ use Rattle.arithmetic.specs.declared.outcome.Taken.{Taken}
 use Rattle.arithmetic.specs.declared.scalar.Tested.{Tested}
 use Rattle.arithmetic.specs.Kept.{Halves, takenOf}
 use Rattle.sheets.specs.declared.values.Placed.{Placed}
+use Rattle.replay.specs.declared.outcome.Replay.{Replay}
+use Rattle.replay.specs.Replay.{Replayed, replayOf}
 use Rattle.exports.specs.Numbers.{yesNumber, orderNumber, testNumber, realPart, imaginaryPart}
 
 -- ---- references
@@ -68,6 +70,9 @@ ReportsScalar o = Reports (o .number) (shapeBytes (o .shape), o .value)
 abbrev pub ReportsPlace : Placed → ℕ → List ℕ × ℕ → List ℕ × ℕ → Type 0
 ReportsPlace o = Reports (o .number) (shapeBytes (o .shape), o .start)
 
+abbrev pub ReportsSteps : Replay → ℕ → List ℕ × List ℕ → List ℕ × List ℕ → Type 0
+ReportsSteps o = Reports (o .number) (shapeBytes (o .shape), o .steps ∷ o .stopped ∷ [])
+
 -- ---- with an output, before and after
 
 pub record ReportsValue (o : Outcome) (r : ℕ) (before after : List Float) (held holds : List ℕ) : Type 0 where
@@ -90,3 +95,7 @@ pub record ReportsTaken (o : Halves) (r : ℕ) (before after : List Float) (held
 pub record ReportsList {A : Type 0} (o : Written A) (r : ℕ) (before after : List A) (held holds : ℕ) : Type 0 where
   pub reports : ReportsCount (countOf o) r held holds
   pub left : after ≡ laid (o .items) before
+
+pub record ReportsReplay (o : Replayed) (r : ℕ) (before after : List Float) (held holds : List ℕ × List ℕ) : Type 0 where
+  pub reports : ReportsSteps (replayOf o) r held holds
+  pub left : after ≡ laid (o .pose .coefs) before

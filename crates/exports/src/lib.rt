@@ -3,6 +3,7 @@
 pub mod blades;
 pub mod build;
 pub mod compare;
+pub mod cues;
 pub mod flavors;
 mod numbers;
 pub mod operators;

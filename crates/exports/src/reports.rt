@@ -15,12 +15,13 @@ use masks::outcome::shape_of;
 use masks::shape_bytes::shape_bytes;
 use masks::text::Read;
 use product::outcome::Product;
+use replay::outcome::Replay;
 use sheets::read::SheetRead;
 use sheets::values::Placed;
 ghost use mathlib.Core.Path.{_≡_};
 ghost use mathlib.Core.List.{[], _∷_};
 ghost use Rattle.exports.specs.Numbers.{testNumber, realPart, imaginaryPart};
-ghost use Rattle.exports.specs.Reports.{ReportsAnswer, ReportsAnswers, ReportsCount, ReportsNumber, ReportsFlavor, ReportsPairs, ReportsYesNo, ReportsOrder, ReportsTest, ReportsScalar, ReportsPlace};
+ghost use Rattle.exports.specs.Reports.{ReportsAnswer, ReportsAnswers, ReportsCount, ReportsNumber, ReportsFlavor, ReportsPairs, ReportsYesNo, ReportsOrder, ReportsTest, ReportsScalar, ReportsPlace, ReportsSteps};
 ghost use Rattle.exports.specs.Sheet.{ReportsCounts};
 
 // A value's shape.
@@ -196,5 +197,24 @@ pub(crate) fn report_sheet(sheet: SheetRead, to_shapes: &mut usize, to_count: &m
     let shapes = sheet.shapes;
     *to_shapes = shapes.count;
     *to_count = sheet.count;
+    number
+}
+
+// A pose's shape, how many steps led to it, and the refusal that it stopped with.
+pub(crate) fn report_replay(
+    replay: Replay,
+    to_shape: &mut [u8; 6],
+    to_steps: &mut usize,
+    to_stopped: &mut u8,
+) -> u8
+    ensures { λ r. ⌜ ReportsSteps replay r (now («to_shape» .entry), now («to_steps» .entry) ∷ now («to_stopped» .entry) ∷ []) (now («to_shape» .exit), now («to_steps» .exit) ∷ now («to_stopped» .exit) ∷ []) ⌝ }
+{
+    let number = replay.number;
+    if number != DONE {
+        return number;
+    }
+    *to_shape = shape_bytes(replay.shape);
+    *to_steps = replay.steps;
+    *to_stopped = replay.stopped;
     number
 }

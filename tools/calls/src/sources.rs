@@ -3,14 +3,19 @@ use crate::table::Table;
 use crate::tree::Tree;
 
 /// The sources with constants that the face has as well.
-const CONSTANTS: [&str; 2] = ["crates/masks/src/outcome.rt", "crates/sheets/src/shapes.rt"];
+const CONSTANTS: [&str; 4] = [
+    "crates/masks/src/outcome.rt",
+    "crates/sheets/src/shapes.rt",
+    "crates/replay/src/log.rt",
+    "crates/replay/src/replay.rt",
+];
 const VERSION: &str = "crates/exports/src/version.rt";
 const KINDS: &str = "crates/masks/src/shape_bytes.rt";
 const ERRORS: &str = "rust/src/error.rs";
 const CRATE: &str = "rust/Cargo.toml";
 
 /// All that is read here; the sources of the exports are read in any case.
-pub const SOURCES: [&str; 5] = [CONSTANTS[0], CONSTANTS[1], KINDS, ERRORS, CRATE];
+pub const SOURCES: [&str; 7] = [CONSTANTS[0], CONSTANTS[1], CONSTANTS[2], CONSTANTS[3], KINDS, ERRORS, CRATE];
 
 /// Constants of the crates that the table has not, or has with another value; and refusals that no crate has.
 pub fn constants(table: &Table, tree: &Tree) -> Vec<String> {
