@@ -35,11 +35,13 @@ pub enum Error {
     NoSpec,
     /// 9: a rig sheet is malformed.
     Malformed,
+    /// 10: a log has too many steps, one of no known kind or one that names no value of the sheet.
+    BadLog,
 }
 
 impl Error {
     /// Every error, in the order of the numbers.
-    pub const ALL: [Error; 9] = [
+    pub const ALL: [Error; 10] = [
         Error::TooManyDims,
         Error::WrongCount,
         Error::NoRoom,
@@ -49,9 +51,10 @@ impl Error {
         Error::NoFlavor,
         Error::NoSpec,
         Error::Malformed,
+        Error::BadLog,
     ];
 
-    /// The refusal number, 1 to 9.
+    /// The refusal number, 1 to 10.
     #[must_use]
     pub fn number(self) -> u8 {
         match self {
@@ -64,6 +67,7 @@ impl Error {
             Error::NoFlavor => 7,
             Error::NoSpec => 8,
             Error::Malformed => 9,
+            Error::BadLog => 10,
         }
     }
 
@@ -79,7 +83,7 @@ impl Error {
         Error::ALL.into_iter().find(|error| error.number() == number)
     }
 
-    /// What a call has answered with its number. No call answers with a number above 9.
+    /// What a call has answered with its number. No call answers with a number above 10.
     pub(crate) fn reported<T>(number: u8, result: T) -> Result<T, Error> {
         match number {
             0 => Ok(result),
@@ -107,6 +111,9 @@ impl fmt::Display for Error {
             }
             Error::NoSpec => "after Cl come one to three whole numbers from 0 to 255, as in Cl 3 1",
             Error::Malformed => "this is not a rig sheet, or it is damaged",
+            Error::BadLog => {
+                "the log cannot be replayed: it has more than 200 steps, or a step of no known kind, or it names a value that is not in the sheet, or the sheet has no values"
+            }
         })
     }
 }

@@ -5,6 +5,7 @@
 //!
 //! - [`Multivector`]: a value, with its [`Shape`] (dimensions 0 to 9 and a [`Flavor`]) and its 2^d numbers.
 //! - [`Sheet`]: the rig sheet, values as bytes, in which even the bits of a NaN are kept; [`rig`] reads and writes it as text.
+//! - [`Log`]: the steps that [`Sheet::replay`] carries out over a sheet's values; [`log`] reads and writes them as text.
 //! - [`bound`]: what is guaranteed for the numbers of a product.
 //! - [`Error`]: why a call was refused, one variant for each refusal number.
 //! - [`lent`]: the same calls on the caller's slices, for callers that own their memory.
@@ -74,11 +75,17 @@ mod values;
 pub mod bound;
 pub mod rig;
 
+// Logs of steps over sheets, and their replay.
+pub mod log;
+mod replay;
+
 pub use error::Error;
 pub use flavor::Flavor;
+pub use log::{Log, MAX_STEPS, Step};
 pub use multivector::Multivector;
 pub use order::Order;
 pub use products::Product;
+pub use replay::Replay;
 pub use shape::{MAX_BLADES, MAX_DIMS, Shape};
 pub use sheet::{MAX_PATTERNS, MAX_SHAPES, Sheet, Values};
 pub use text::ParseShapeError;

@@ -164,6 +164,17 @@ fn sheets(names: &mut Names) {
     assert_eq!(out, [0x3FF0_0000_0000_0000, 0x7FF8_0000_0000_0000, 9]);
 }
 
+fn replays(names: &mut Names) {
+    // A sheet of the number 1, reversed, then asked for 10 dimensions.
+    let one = [1, 0, 0, 0, 0, 0, 0, 1, 0, 0, 0, 0, 0, 0, 0, 0, 0, 0xF0, 0x3F];
+    let mut out = [77.0; 513];
+    call!(names, replay(1, &one, &[2, 0, 3, 10], &mut out) => Ok((Shape::new(0, V), 1, 1)));
+    assert_eq!(out[..2], [1.0, 77.0]);
+    call!(names, replay(1, &one, &[3, 1, 0, 0], &mut out) => Ok((LINE, 2, 0)));
+    assert_eq!(out[..3], [1.0, 0.0, 77.0]);
+    call!(names, replay(1, &one, &[4, 0, 7, 0], &mut out) => Err(Error::BadLog));
+}
+
 #[test]
 fn every_call_of_the_table_is_made() {
     let mut names = Names::new();
@@ -180,6 +191,7 @@ fn every_call_of_the_table_is_made() {
         values,
         comparisons,
         sheets,
+        replays,
     ] {
         group(&mut names);
     }

@@ -1,6 +1,6 @@
 //! Each refusal number, and that a refused call leaves everything alone.
 use std::collections::HashSet;
-use thresholm::{Error, Flavor, Multivector, Shape, Sheet, lent};
+use thresholm::{Error, Flavor, Log, Multivector, Shape, Sheet, Step, lent};
 
 const PLANE: Shape = Shape::new(2, Flavor::Vanilla);
 
@@ -86,6 +86,20 @@ fn the_other_numbers() {
 }
 
 #[test]
+fn logs_that_cannot_be_replayed() {
+    let refused = Err(Error::BadLog);
+    for bytes in [&[0][..], &[5, 0], &[2, 0, 255, 0], &[2, 0, 2], &[2; 402]] {
+        assert_eq!(Log::from_bytes(bytes).map(drop), refused, "{bytes:02x?}");
+    }
+    assert_eq!(Log::new([Step::Reverse; 201]).map(drop), refused);
+    let sheet = Sheet::new([PLANE], [0; 4]).unwrap();
+    for step in [Step::Right(1), Step::Left(255), Step::Halt(1)] {
+        assert_eq!(sheet.replay(&Log::new([Step::Halt(0), step]).unwrap()).map(drop), refused, "{step}");
+    }
+    assert_eq!(Sheet::new([], []).unwrap().replay(&Log::default()).map(drop), refused);
+}
+
+#[test]
 fn a_refused_call_leaves_its_outputs_alone() {
     let nine = Shape::new(9, Flavor::Vanilla);
     let point = Shape::new(0, Flavor::Projective);
@@ -100,6 +114,11 @@ fn a_refused_call_leaves_its_outputs_alone() {
     let (mut shapes, mut patterns) = ([8; 6], [9; 4]);
     assert_eq!(lent::read(&[1, 2, 3], &mut shapes, &mut patterns), Err(Error::Malformed));
     assert_eq!((shapes, patterns), ([8; 6], [9; 4]));
+    let one = [1, 0, 0, 0, 0, 0, 0, 1, 0, 0, 0, 0, 0, 0, 0, 0, 0, 0xF0, 0x3F];
+    assert_eq!(lent::replay(2, &one, &[], &mut out), Err(Error::Malformed));
+    assert_eq!(lent::replay(1, &one, &[7, 0], &mut out), Err(Error::BadLog));
+    assert_eq!(lent::replay(1, &one, &[], &mut out[..511]), Err(Error::NoRoom));
+    assert!(out.iter().all(|&x| x == 7.0));
 }
 
 #[test]
@@ -120,9 +139,9 @@ fn numbers_and_sentences() {
         assert_eq!(Error::from_number(error.number()), Some(error));
     }
     let known = (0..=255).filter_map(Error::from_number).count();
-    assert_eq!(known, 9);
+    assert_eq!(known, 10);
     let sentences: HashSet<String> = Error::ALL.iter().map(ToString::to_string).collect();
-    assert_eq!(sentences.len(), 9);
+    assert_eq!(sentences.len(), 10);
     assert!(sentences.iter().all(|sentence| sentence.len() > 20));
     let boxed: Box<dyn std::error::Error> = Box::new(Error::Planar);
     assert_eq!(boxed.to_string(), Error::Planar.to_string());

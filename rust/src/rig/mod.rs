@@ -34,13 +34,13 @@
 //! The blades are those of [`blade_names`]. A number is written with a point, as -1.5, 1200 or 2.5e-3; `inf`, `-inf` and `nan` are allowed; `0x` and
 //! 16 digits give its bits.
 mod blades;
-mod fault;
+pub(crate) mod fault;
 mod header;
 mod numbers;
 mod read;
-mod text;
+pub(crate) mod text;
 mod values;
-mod words;
+pub(crate) mod words;
 mod write;
 
 pub use blades::blade_names;

@@ -1,4 +1,4 @@
-//! The text of a rig: its lines, words and places.
+//! The text of a rig or a log: its lines, words and places.
 use super::fault::Fault;
 
 /// A part of one line with its place: line and column are counted from 1, the column in characters.
