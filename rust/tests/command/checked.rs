@@ -29,7 +29,8 @@ fn what_is_wrong_is_told_by_every_subcommand() {
         let mut bytes = good.clone();
         bytes[at] = byte;
         let rig = file(&folder, "wrong.rig", &bytes);
-        for arguments in [&["check", &rig][..], &["show", &rig], &["product", &rig, "0", "0"]] {
+        for arguments in [&["check", &rig][..], &["show", &rig], &["product", &rig, "0", "0"], &["replay", &rig, &rig]]
+        {
             assert_eq!(run(arguments).refused(), format!("{rig}: {says}\n"));
         }
     }

@@ -1,9 +1,10 @@
 //! The examples: the room, imported and multiplied as both READMEs say, and the README's Rust.
-use crate::support::{folder, run, told};
+use crate::support::{command, folder, run, told};
 use std::fs;
 use std::path::{Path, PathBuf};
 use std::process::Command;
 use thresholm::Sheet;
+use thresholm::rig::Rig;
 
 fn example(name: &str) -> PathBuf {
     repository("examples").join(name)
@@ -40,6 +41,63 @@ fn the_readmes_have_the_same_product() {
         let section = section.split("\n## ").next().unwrap_or(section);
         assert!(section.contains(&format!("{block}\n")), "{name} has another product");
     }
+}
+
+/// What `thresholm replay` prints of the moves over the room, each file named as in the repository.
+fn replayed(more: &[&str]) -> String {
+    let output = command()
+        .current_dir(repository(""))
+        .args(["replay", "examples/room.txt", "examples/moves.txt"])
+        .args(more)
+        .output();
+    told(&output.expect("the command runs")).done()
+}
+
+#[test]
+fn the_moves_lead_to_the_pose_that_the_page_has() {
+    let block: String = replayed(&[]).lines().map(|line| format!("    {line}").trim_end().to_string() + "\n").collect();
+    let page = fs::read_to_string(repository("examples/README.md")).expect("it is there");
+    assert!(
+        page.contains(&format!("    $ thresholm replay examples/room.txt examples/moves.txt\n{block}\n")),
+        "the page has another pose"
+    );
+}
+
+/// The page's two lines about the log's bytes, in a folder with the examples, where they can be written.
+#[test]
+fn the_moves_become_the_bytes_that_the_page_says() {
+    let folder = folder("example-bytes");
+    for name in ["examples", "target"] {
+        fs::create_dir(folder.join(name)).expect("a folder");
+    }
+    for name in ["room.txt", "moves.txt"] {
+        fs::copy(example(name), folder.join("examples").join(name)).expect("a copy");
+    }
+    let line = "import examples/moves.txt --over examples/room.txt -o target/moves.log";
+    let here = |arguments: &str| {
+        let output = command().current_dir(&folder).args(arguments.split(' ')).output();
+        told(&output.expect("the command runs")).done()
+    };
+    let said = here(line);
+    let page = fs::read_to_string(repository("examples/README.md")).expect("it is there");
+    assert!(page.contains(&format!("    $ thresholm {line}\n    {said}\n")), "the page says other than {said}");
+    here("import examples/room.txt -o target/room.rig");
+    let of_bytes = here("replay target/room.rig target/moves.log");
+    let (_, pose) = of_bytes.split_once('\n').expect("lines");
+    assert!(replayed(&[]).ends_with(pose), "the bytes lead to another pose: {of_bytes}");
+}
+
+/// The slide is exact; after the turn the microphone is where a turn by 30 degrees round 1500, 2000 takes it.
+#[test]
+fn the_moves_are_a_slide_and_a_turn() {
+    assert!(replayed(&["--cue", "2"]).contains("  # 1000e₀₁ + 300e₂₀ + e₁₂\n"));
+    let rig = Rig::from_utf8(replayed(&[]).as_bytes()).expect("what is printed is a rig");
+    let pose = rig.sheet().value(0).expect("the pose");
+    let [to_y, to_x] = [4, 5].map(|place| pose.numbers()[place] / pose.numbers()[6]);
+    let (sin, cos) = 30_f64.to_radians().sin_cos();
+    let (x, y) = (300.0 - 1500.0, 1000.0 - 2000.0);
+    let (turned_x, turned_y) = (1500.0 + cos * x - sin * y, 2000.0 + sin * x + cos * y);
+    assert!((to_x - turned_x).abs() < 0.01 && (to_y - turned_y).abs() < 0.01, "{to_x} {to_y}");
 }
 
 #[test]

@@ -11,6 +11,8 @@ fn ends_well(run: &Run) {
 
 fn each_reader(folder: &Path, bytes: &[u8]) -> [i32; 3] {
     let rig = file(folder, "any.rig", bytes);
+    // A sheet is no log, but it may be taken for one.
+    ends_well(&run(&["replay", &rig, &rig]));
     let runs = [run(&["check", &rig]), run(&["show", &rig]), run(&["product", &rig, "0", "1", "0"])];
     runs.each_ref().map(|run| {
         ends_well(run);
@@ -129,12 +131,67 @@ fn random_texts() {
     assert!(done > 5, "{done} are read");
 }
 
+/// Pieces that texts of logs are made of, and some that they are not.
+const LOG_PIECES: [&str; 22] = [
+    "right ", "left ", "halt ", "reverse", "dims ", "\n", "\n", "\n", " ", "#", "0", "1", "2", "3", "9", "10", "slide",
+    "a b", "256", "é", "\r", "\0",
+];
+
+/// A text is imported over the rig where it is replayed, and is refused in the same words; bytes are not imported.
+fn imported_alike(is_text: bool, rig: &str, log: &str, replayed: &Run) {
+    let written = Path::new(log).with_extension("bytes");
+    let run =
+        run(&["import".as_ref(), log.as_ref(), "--over".as_ref(), rig.as_ref(), "-o".as_ref(), written.as_os_str()]);
+    ends_well(&run);
+    assert_eq!(run.status == 0, written.exists(), "{}", run.err);
+    let _ = fs::remove_file(&written);
+    match (is_text, replayed.status) {
+        (false, 0) => {
+            assert_eq!(run.err, format!("{log}: this is a log in bytes already, and no text to make one of\n"))
+        }
+        _ => assert_eq!((run.status, run.err), (replayed.status, replayed.err.clone())),
+    }
+}
+
+#[test]
+fn random_logs() {
+    let folder = folder("fuzz-log");
+    let rig = file(&folder, "room.txt", b"a b: 2 PGA\n 1 2 3 4\nslide: 1 VGA\n 1 2\n: 0 VGA\n 1");
+    let written = folder.join("pose.rig");
+    let mut r = Rng(14);
+    let mut done = 0;
+    for round in 0..200 {
+        let mut log: Vec<u8> = match round % 4 {
+            0 => (0..r.below(12)).map(|_| r.below(5) as u8).collect(),
+            _ => (0..r.below(16)).flat_map(|_| r.pick(&LOG_PIECES).bytes()).collect(),
+        };
+        if round % 10 == 0 {
+            log.push(0x80 | r.next() as u8);
+        }
+        let is_text = log.first().is_none_or(|byte| *byte > 4);
+        let log = file(&folder, "any.log", &log);
+        let run = run(&["replay".as_ref(), rig.as_ref(), log.as_ref(), "-o".as_ref(), written.as_os_str()]);
+        ends_well(&run);
+        assert_eq!(run.status == 0, written.exists(), "{}", run.err);
+        let _ = fs::remove_file(&written);
+        imported_alike(is_text, &rig, &log, &run);
+        done += usize::from(run.status == 0);
+        if is_text && run.status == 1 {
+            has_place(&log, &run.err);
+        }
+    }
+    assert!(done > 20, "{done} are replayed");
+}
+
 /// Words that command lines are made of, and some that they are not.
-const WORDS: [&str; 20] = [
+const WORDS: [&str; 23] = [
     "import",
     "show",
     "check",
     "product",
+    "replay",
+    "--cue",
+    "--over",
     "help",
     "--help",
     "-h",

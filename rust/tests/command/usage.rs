@@ -3,7 +3,7 @@ use crate::support::{command, file, folder, run, told};
 use std::io::Read;
 use std::process::Stdio;
 
-const SUBCOMMANDS: [&str; 4] = ["import", "show", "check", "product"];
+const SUBCOMMANDS: [&str; 5] = ["import", "show", "check", "product", "replay"];
 
 #[test]
 fn help_names_every_subcommand() {
@@ -35,6 +35,11 @@ fn help_says_what_is_proved_and_what_turns() {
         ),
         "{product}"
     );
+    let replay = run(&["help", "replay"]).done().replace('\n', " ");
+    assert!(replay.contains("any two values that are not   scalar are equal"), "{replay}");
+    assert!(replay.contains("the exit status is 0, since that is where the log leads"), "{replay}");
+    let import = run(&["help", "import"]).done();
+    assert!(import.contains("  $ thresholm import moves.txt --over room.txt -o moves.log\n"), "{import}");
     let check = run(&["help", "check"]).done().replace('\n', " ");
     assert!(check.contains("a number of several bytes, reported by the byte at which it starts"), "{check}");
 }
@@ -47,7 +52,7 @@ fn the_version_is_the_crates() {
 }
 
 /// Command lines, and what is said of them.
-const MISUSED: [(&[&str], &str); 28] = [
+const MISUSED: [(&[&str], &str); 47] = [
     (&[], "what shall be done?"),
     (&["mix"], "there is no subcommand 'mix'"),
     (&["-x"], "there is no subcommand '-x'"),
@@ -59,6 +64,12 @@ const MISUSED: [(&[&str], &str); 28] = [
     (&["import", "a.txt", "-o", "b", "-o", "c"], "-o is here twice"),
     (&["import", "a.txt", "b.txt", "-o", "c"], "one text file is read, so 'b.txt' is too many"),
     (&["import", "-o", "c"], "the text file to read is missing"),
+    (&["import", "--over", "r", "-o", "c"], "the text file to read is missing"),
+    (&["import", "a.txt", "--over", "r"], "-o and the log to write are missing"),
+    (&["import", "a.txt", "-o", "c", "--over"], "after --over comes the rig of the log to read"),
+    (&["import", "a.txt", "--over", "r", "--over", "s", "-o", "c"], "--over is here twice"),
+    (&["import", "a.txt", "b.txt", "--over", "r", "-o", "c"], "one text file is read, so 'b.txt' is too many"),
+    (&["import", "a.txt", "--over=r", "-o", "c"], "there is no option '--over=r'"),
     (&["show"], "the rig sheet to read is missing"),
     (&["show", "a", "b"], "one rig sheet is read, so 'b' is too many"),
     (&["show", "-o", "a"], "there is no option '-o'"),
@@ -72,6 +83,19 @@ const MISUSED: [(&[&str], &str); 28] = [
     (&["product", "a", "1", ""], "a value is named by its number, 0 or more: ''"),
     (&["product", "a", "1", "-2"], "there is no option '-2'"),
     (&["product", "a", "1", "1.5"], "a value is named by its number, 0 or more: '1.5'"),
+    (&["replay"], "the rig and the log to read are missing"),
+    (&["replay", "--cue", "1", "-o", "c"], "the rig and the log to read are missing"),
+    (&["replay", "a"], "the log to read is missing"),
+    (&["replay", "a", "b", "c"], "one rig and one log are read, so 'c' is too many"),
+    (&["replay", "a", "b", "-o"], "after -o comes the file to write"),
+    (&["replay", "a", "b", "-o", "c", "-o", "d"], "-o is here twice"),
+    (&["replay", "a", "b", "--cue"], "after --cue comes the number of steps to replay"),
+    (&["replay", "a", "b", "--cue", "1", "--cue", "2"], "--cue is here twice"),
+    (&["replay", "a", "b", "--cue", "one"], "a cue is a number of steps, 0 or more: 'one'"),
+    (&["replay", "a", "b", "--cue", "-1"], "a cue is a number of steps, 0 or more: '-1'"),
+    (&["replay", "--over", "a", "b"], "there is no option '--over'"),
+    (&["replay", "a", "b", "--cue=1"], "there is no option '--cue=1'"),
+    (&["product", "a", "1", "2", "--cue", "1"], "there is no option '--cue'"),
     (&["--version", "x"], "nothing follows --version, so 'x' is too many"),
     (&["-V", "--version"], "nothing follows -V, so '--version' is too many"),
     (&["--help", "show"], "nothing follows --help, so 'show' is too many"),
@@ -112,6 +136,25 @@ fn files_that_cannot_be_read_are_told() {
     }
 }
 
+#[test]
+fn a_rig_or_a_log_that_cannot_be_read_is_told() {
+    let folder = folder("unreadable-log");
+    let here = folder.to_str().expect("a plain path");
+    let rig = file(&folder, "one.txt", b": 0 VGA\n1");
+    for path in [here, &format!("{here}/none"), "", "a\nb"] {
+        for arguments in [
+            &["replay", path, &rig][..],
+            &["replay", &rig, path],
+            &["import", path, "--over", &rig, "-o", "never-written.log"],
+            &["import", &rig, "--over", path, "-o", "never-written.log"],
+        ] {
+            let message = run(arguments).refused();
+            let shown = path.replace('\n', "\\n");
+            assert!(message.starts_with(&format!("{shown}: it cannot be read: ")), "{message}");
+        }
+    }
+}
+
 #[cfg(unix)]
 #[test]
 fn arguments_may_be_any_bytes() {
@@ -123,6 +166,7 @@ fn arguments_may_be_any_bytes() {
     assert!(run(&[word("help"), &odd]).misused().contains("there is no help for"));
     assert!(run(&[word("show"), &odd]).refused().contains("it cannot be read"));
     assert!(run(&[word("product"), &odd, word("0"), &odd]).misused().contains("a value is named by its number"));
+    assert!(run(&[word("replay"), &odd, &odd, word("--cue"), &odd]).misused().contains("a cue is a number of steps"));
     let dashed = OsString::from_vec(vec![b'-', 0xFF]);
     assert!(run(&[word("check"), &dashed]).misused().contains("there is no option"));
 }

@@ -11,6 +11,11 @@ pub enum Task {
         text: PathBuf,
         rig: PathBuf,
     },
+    ImportLog {
+        text: PathBuf,
+        over: PathBuf,
+        log: PathBuf,
+    },
     Show {
         rig: PathBuf,
     },
@@ -22,6 +27,13 @@ pub enum Task {
         rig: PathBuf,
         indices: Vec<String>,
     },
+    /// The cue is digits too.
+    Replay {
+        rig: PathBuf,
+        log: PathBuf,
+        cue: Option<String>,
+        output: Option<PathBuf>,
+    },
     Help(Topic),
     Version,
 }
@@ -31,6 +43,8 @@ pub enum Task {
 struct Words {
     others: Vec<OsString>,
     output: Option<OsString>,
+    cue: Option<OsString>,
+    over: Option<OsString>,
     help: bool,
 }
 
@@ -53,6 +67,7 @@ pub fn task_of(arguments: Vec<OsString>) -> Result<Task, Stop> {
     match topic {
         Topic::Import => import_of(words),
         Topic::Product => product_of(words),
+        Topic::Replay => replay_of(words),
         Topic::Show => Ok(Task::Show { rig: only_rig(topic, words)? }),
         _ => Ok(Task::Check { rig: only_rig(topic, words)? }),
     }
@@ -92,11 +107,15 @@ fn words_of(topic: Topic, mut rest: impl Iterator<Item = OsString>) -> Result<Wo
     while let Some(word) = rest.next() {
         match word.to_str() {
             Some("--help" | "-h") => words.help = true,
-            Some("-o") if topic == Topic::Import => match rest.next() {
-                _ if words.output.is_some() => return Err(Stop::usage(topic, "-o is here twice")),
-                None => return Err(Stop::usage(topic, "after -o comes the file to write")),
-                output => words.output = output,
-            },
+            Some("-o") if matches!(topic, Topic::Import | Topic::Replay) => {
+                once(&mut words.output, rest.next(), topic, ["-o", "the file to write"])?;
+            }
+            Some("--over") if topic == Topic::Import => {
+                once(&mut words.over, rest.next(), topic, ["--over", "the rig of the log to read"])?;
+            }
+            Some("--cue") if topic == Topic::Replay => {
+                once(&mut words.cue, rest.next(), topic, ["--cue", "the number of steps to replay"])?;
+            }
             Some("--") => words.others.extend(rest.by_ref()),
             _ if word.as_encoded_bytes().starts_with(b"-") => {
                 return Err(Stop::usage(topic, format!("there is no option {}", shown(&word))));
@@ -107,10 +126,27 @@ fn words_of(topic: Topic, mut rest: impl Iterator<Item = OsString>) -> Result<Wo
     Ok(words)
 }
 
+/// Takes the word after an option, which may be there once.
+fn once(taken: &mut Option<OsString>, word: Option<OsString>, topic: Topic, said: [&str; 2]) -> Result<(), Stop> {
+    let [option, what] = said;
+    match word {
+        _ if taken.is_some() => Err(Stop::usage(topic, format!("{option} is here twice"))),
+        None => Err(Stop::usage(topic, format!("after {option} comes {what}"))),
+        word => {
+            *taken = word;
+            Ok(())
+        }
+    }
+}
+
 fn import_of(words: Words) -> Result<Task, Stop> {
+    let written = if words.over.is_some() { "log" } else { "rig sheet" };
     match (&words.others[..], words.output) {
-        ([text], Some(rig)) => Ok(Task::Import { text: text.into(), rig: rig.into() }),
-        ([_], None) => Err(Stop::usage(Topic::Import, "-o and the rig sheet to write are missing")),
+        ([text], Some(output)) => Ok(match words.over {
+            Some(over) => Task::ImportLog { text: text.into(), over: over.into(), log: output.into() },
+            None => Task::Import { text: text.into(), rig: output.into() },
+        }),
+        ([_], None) => Err(Stop::usage(Topic::Import, format!("-o and the {written} to write are missing"))),
         ([], _) => Err(Stop::usage(Topic::Import, "the text file to read is missing")),
         ([_, extra, ..], _) => {
             Err(Stop::usage(Topic::Import, format!("one text file is read, so {} is too many", shown(extra))))
@@ -131,9 +167,7 @@ fn product_of(words: Words) -> Result<Task, Stop> {
         return Err(Stop::usage(Topic::Product, "the rig sheet to read is missing"));
     };
     let index = |word: &OsString| {
-        let digits = word.to_str().filter(|text| !text.is_empty() && text.bytes().all(|b| b.is_ascii_digit()));
-        let told = digits.map(str::to_string);
-        told.ok_or_else(|| {
+        digits(word).ok_or_else(|| {
             Stop::usage(Topic::Product, format!("a value is named by its number, 0 or more: {}", shown(word)))
         })
     };
@@ -142,4 +176,29 @@ fn product_of(words: Words) -> Result<Task, Stop> {
         2.. => Ok(Task::Product { rig: rig.into(), indices }),
         _ => Err(Stop::usage(Topic::Product, "a product needs the numbers of two values or more")),
     }
+}
+
+/// A word that is digits alone.
+fn digits(word: &OsStr) -> Option<String> {
+    let digits = word.to_str().filter(|text| !text.is_empty() && text.bytes().all(|b| b.is_ascii_digit()));
+    digits.map(str::to_string)
+}
+
+fn replay_of(words: Words) -> Result<Task, Stop> {
+    let (rig, log) = match &words.others[..] {
+        [rig, log] => (rig.into(), log.into()),
+        [] => return Err(Stop::usage(Topic::Replay, "the rig and the log to read are missing")),
+        [_] => return Err(Stop::usage(Topic::Replay, "the log to read is missing")),
+        [_, _, extra, ..] => {
+            let why = format!("one rig and one log are read, so {} is too many", shown(extra));
+            return Err(Stop::usage(Topic::Replay, why));
+        }
+    };
+    let number = |word: OsString| {
+        digits(&word).ok_or_else(|| {
+            Stop::usage(Topic::Replay, format!("a cue is a number of steps, 0 or more: {}", shown(&word)))
+        })
+    };
+    let cue = words.cue.map(number).transpose()?;
+    Ok(Task::Replay { rig, log, cue, output: words.output.map(PathBuf::from) })
 }

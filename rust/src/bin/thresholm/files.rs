@@ -6,6 +6,9 @@ use std::io::{self, Read, Write};
 use std::path::{Path, PathBuf};
 use thresholm::Sheet;
 
+/// The longest text that is read: far more than 4096 numbers need.
+const MOST_TEXT: usize = 4 << 20;
+
 /// A file's bytes, at most so many and one more: whoever sees that one knows that the file is longer.
 pub fn bytes_of(path: &Path, most: usize) -> Result<Vec<u8>, Stop> {
     let mut bytes = Vec::new();
@@ -16,11 +19,24 @@ pub fn bytes_of(path: &Path, most: usize) -> Result<Vec<u8>, Stop> {
     }
 }
 
-/// A file's rig sheet. Where the library's reader refuses it, the first that is wrong is reported.
+/// The bytes of a file that may be a text.
+pub fn text_of(path: &Path) -> Result<Vec<u8>, Stop> {
+    let bytes = bytes_of(path, MOST_TEXT)?;
+    if bytes.len() > MOST_TEXT {
+        return Err(Stop::in_file(path, format!("the text is longer than {MOST_TEXT} bytes")));
+    }
+    Ok(bytes)
+}
+
+/// A file's rig sheet.
 pub fn sheet_of(path: &Path) -> Result<Sheet, Stop> {
-    let bytes = bytes_of(path, MOST_BYTES)?;
-    Sheet::from_bytes(&bytes).map_err(|error| match first_wrong(&bytes) {
-        Some(wrong) if is_text(&bytes) => {
+    sheet_in(path, &bytes_of(path, MOST_BYTES)?)
+}
+
+/// The rig sheet that a file's bytes are. Where the library's reader refuses it, the first that is wrong is reported.
+pub fn sheet_in(path: &Path, bytes: &[u8]) -> Result<Sheet, Stop> {
+    Sheet::from_bytes(bytes).map_err(|error| match first_wrong(bytes) {
+        Some(wrong) if is_text(bytes) => {
             Stop::in_file(path, format!("{wrong} (this is a text: thresholm import makes a rig sheet of one)"))
         }
         Some(wrong) => Stop::in_file(path, wrong),
@@ -32,6 +48,17 @@ pub fn sheet_of(path: &Path) -> Result<Sheet, Stop> {
 fn is_text(bytes: &[u8]) -> bool {
     let typed = |c: char| !c.is_control() || c.is_whitespace();
     !bytes.is_empty() && std::str::from_utf8(bytes).is_ok_and(|text| text.chars().all(typed))
+}
+
+/// Refuses to write over a file that was read, `called` so.
+pub fn keep(read: &Path, called: &str, written: &Path) -> Result<(), Stop> {
+    match (fs::canonicalize(read), fs::canonicalize(written)) {
+        (Ok(from), Ok(to)) if from == to => Err(Stop::in_file(
+            written,
+            format!("this is the {called} itself, and it is not overwritten (write to another file)"),
+        )),
+        _ => Ok(()),
+    }
 }
 
 /// Writes a file by way of another beside it, so that what was there stays whole where this fails.

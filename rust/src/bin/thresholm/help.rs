@@ -8,6 +8,7 @@ pub enum Topic {
     Show,
     Check,
     Product,
+    Replay,
 }
 
 impl Topic {
@@ -17,6 +18,7 @@ impl Topic {
             "show" => Some(Topic::Show),
             "check" => Some(Topic::Check),
             "product" => Some(Topic::Product),
+            "replay" => Some(Topic::Replay),
             _ => None,
         }
     }
@@ -24,11 +26,14 @@ impl Topic {
     /// The lines that follow a message about the command line.
     pub fn usage(self) -> String {
         let (line, more) = match self {
-            Topic::All => ("thresholm import | show | check | product ...", "help"),
-            Topic::Import => ("thresholm import FILE.txt -o RIG", "help import"),
+            Topic::All => ("thresholm import | show | check | product | replay ...", "help"),
+            Topic::Import => {
+                ("thresholm import FILE.txt -o RIG\n       thresholm import LOG.txt --over RIG -o LOG", "help import")
+            }
             Topic::Show => ("thresholm show RIG", "help show"),
             Topic::Check => ("thresholm check RIG", "help check"),
             Topic::Product => ("thresholm product RIG I J ...", "help product"),
+            Topic::Replay => ("thresholm replay RIG LOG [--cue K] [-o RIG]", "help replay"),
         };
         format!("usage: {line}\nmore: thresholm {more}")
     }
@@ -40,17 +45,19 @@ impl Topic {
             Topic::Show => SHOW,
             Topic::Check => CHECK,
             Topic::Product => PRODUCT,
+            Topic::Replay => REPLAY,
         }
     }
 }
 
 const ALL: &str = "\
-thresholm: rig sheets of multivectors, and their products
+thresholm: rig sheets of multivectors, their products, and logs over them
 
-  thresholm import FILE.txt -o RIG  make a rig sheet from a text list of values
+  thresholm import FILE.txt -o RIG  make a rig sheet from a text list of values, or a log from text
   thresholm show RIG                print a rig sheet, value by value
   thresholm check RIG               say that a rig sheet is valid, or where it is wrong
   thresholm product RIG I J ...     multiply values in order, and say how near to exact that is
+  thresholm replay RIG LOG          carry out a log's steps, and print the pose that they lead to
   thresholm help SUBCOMMAND         more about one of these (or: thresholm SUBCOMMAND --help)
   thresholm --version               the version
 
@@ -63,6 +70,7 @@ understood.
 
 const IMPORT: &str = "\
 thresholm import FILE.txt -o RIG
+thresholm import LOG.txt --over RIG -o LOG
 
 Reads a text list of values and writes the rig sheet RIG. An old RIG is replaced only when the
 whole text is right; the text itself is never overwritten. The values are listed with the numbers
@@ -94,6 +102,16 @@ come the value's numbers, on as many lines as you like:
 
 A fault is reported with its line and column, both counted from 1:
 room.txt:12:9: this is no number: '1,5' (use a point)
+
+With --over, the text is a log, in the form that 'thresholm help replay' shows. LOG becomes its
+bytes, two a step, as a program hands them to the library's own replay, beside the rig sheet. RIG is
+that sheet, or its text, whose names the log may then use:
+
+  $ thresholm import moves.txt --over room.txt -o moves.log
+  moves.log: 6 steps, 12 bytes
+
+The whole log is read as for a replay, and faults are reported alike: each value that it names must
+be there. An old LOG stays where it is refused; neither the text nor RIG is ever overwritten.
 ";
 
 const SHOW: &str = "\
@@ -148,4 +166,46 @@ smaller one grows, and the left one's flavor is used. The bound is about the fac
 Where 3 VGA becomes PGA, e31 becomes e13 with the same number, so its sign turns; a note says so.
 With three or more factors each step's bound is about what goes into that step, the result of the
 step before it as it stands. The last line says what follows for the whole product.
+";
+
+const REPLAY: &str = "\
+thresholm replay RIG LOG [--cue K] [-o RIG]
+
+Replays a log of steps over the values of a rig: starts from value 0, carries out one step after
+the other, and prints the pose that they lead to, how many steps were carried out, and where it
+halted or stopped. What is printed is also a text for 'thresholm import'.
+
+  --cue K  carries out the first K steps only, 0 or more: the pose at that cue
+  -o RIG   writes the pose as a rig sheet of one value; RIG and LOG themselves are never overwritten
+
+RIG is a rig sheet, or the text that one is imported from. LOG is a text with one step a line:
+
+  # The left microphone, slid, then turned with the dolly.
+  left slide
+  right slide back
+  left 9
+  reverse
+  left 9
+  reverse
+
+  right VALUE  the pose times the value
+  left VALUE   the value times the pose
+  reverse      the reverse of the pose
+  dims D       the pose at D dimensions
+  halt VALUE   nothing more, where the pose equals the value
+
+- VALUE is the number of a value, from 0 on; or its name, where RIG is a text. Digits are a number.
+- '#' starts a comment, which goes to the end of its line.
+- A log has at most 200 steps.
+- Whether a pose equals a value is what the workstation's == says: any two values that are not
+  scalar are equal. Where their numbers differ, a note says so.
+- LOG may also be the bytes of a log, two a step: its kind, 0 to 4 in the order above, and its
+  value or dimensions. A fault is then reported by its byte. 'thresholm import' makes the bytes of a
+  text: thresholm import moves.txt --over room.txt -o moves.log
+
+A fault in the log, also behind a halt, is reported with its line and column, and no step is carried
+out: moves.txt:12:7: there is no value 12: they are numbered from 0 to 11
+
+A step whose result would have more than 9 dimensions stops the replay. The pose from before it is
+printed, with the reason; the exit status is 0, since that is where the log leads.
 ";

@@ -1,12 +1,15 @@
-//! The command `thresholm`: rig sheets made from text, shown, checked, and their values multiplied.
+//! The command `thresholm`: rig sheets made from text, shown, checked, their values multiplied, and logs made from text and replayed over them.
 #[cfg(test)]
 mod agreement;
 mod arguments;
 mod diagnosis;
+mod ending;
 mod files;
 mod help;
 mod import;
 mod product;
+mod recorded;
+mod replay;
 mod said;
 mod show;
 mod step;
@@ -36,9 +39,11 @@ fn main() -> ExitCode {
 fn done(task: Task) -> Result<String, Stop> {
     match task {
         Task::Import { text, rig } => import::import(&text, &rig),
+        Task::ImportLog { text, over, log } => import::import_log(&text, &over, &log),
         Task::Show { rig } => show::show(&rig),
         Task::Check { rig } => show::check(&rig),
         Task::Product { rig, indices } => product::product(&rig, &indices),
+        Task::Replay { rig, log, cue, output } => replay::replay(&rig, &log, cue.as_deref(), output.as_deref()),
         Task::Help(topic) => Ok(topic.text().to_string()),
         Task::Version => Ok(concat!("thresholm ", env!("CARGO_PKG_VERSION"), "\n").to_string()),
     }

@@ -3,6 +3,7 @@ use crate::help::Topic;
 use std::path::Path;
 use std::process::ExitCode;
 use thresholm::Error;
+use thresholm::rig::Fault;
 
 /// Text with its control characters escaped.
 pub fn on_one_line(text: &str) -> String {
@@ -33,6 +34,11 @@ impl Stop {
     /// Refused, for a reason that lies in a file.
     pub fn in_file(file: &Path, why: impl std::fmt::Display) -> Stop {
         Stop::Refused(format!("{}: {why}", shown_path(file)))
+    }
+
+    /// Refused for a fault of a text, at its line and column.
+    pub fn at_fault(text: &Path, fault: Fault) -> Stop {
+        Stop::Refused(format!("{}:{fault}", shown_path(text)))
     }
 
     /// Refused by the library, for something in a file.
