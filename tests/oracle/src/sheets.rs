@@ -1,5 +1,6 @@
 //! The calls of the crate `sheets`: when each is refused by document 01's sentences, and what it answers by a reader and a writer of our own.
 use crate::line::{NAN, SheetAnswer, SheetCall};
+use crate::replay::REPLAY;
 use crate::rules::{Given, room, unless};
 use crate::sheet_reader::{self as ours, Shape, Sheet};
 
@@ -107,7 +108,7 @@ pub fn answer(c: &SheetCall) -> SheetAnswer {
 pub fn wrong(op: u64, mut a: SheetAnswer, kind: u64) -> SheetAnswer {
     let last = a.words.len() - 1;
     match (kind % 4, a.out.pop()) {
-        (1, Some(x)) => a.out.push(if op == NUMBERS_OF && x == NAN { 0 } else { x ^ 1 }),
+        (1, Some(x)) => a.out.push(if [NUMBERS_OF, REPLAY].contains(&op) && x == NAN { 0 } else { x ^ 1 }),
         (2, Some(_)) => {}
         (kind, x) => {
             a.out.extend(x);

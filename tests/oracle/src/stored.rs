@@ -3,7 +3,7 @@ use crate::line::{Call, SheetCall};
 use crate::numbers::Rng;
 use crate::{
     arithmetic, arithmetic_lists, corners, lists, masks, product_lists, product_whole, products, refusals,
-    sheet_damage, sheet_stored, snap_lists, whole_lists,
+    replay_stored, sheet_damage, sheet_stored, snap_lists, whole_lists,
 };
 use std::ops::RangeInclusive;
 
@@ -52,4 +52,5 @@ pub fn stored(to: &mut impl Takes) {
     whole_lists::shapes([0, 9, 10, 255].into_iter(), each);
     sheet_stored::stored(&mut |c| to.sheet(c));
     sheet_damage::stored(&mut r, &mut |c| to.sheet(c));
+    replay_stored::stored(&mut |c| to.sheet(c));
 }

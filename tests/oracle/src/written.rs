@@ -1,6 +1,6 @@
 //! Calls written as lines with their answers, some of them wrong, for the program `answers` to replay.
 use crate::stored::Takes;
-use crate::{answer, line, sheets};
+use crate::{answer, line, replay, sheets};
 use std::io::{self, Write};
 
 /// Which answers are written wrong in one thing.
@@ -9,7 +9,7 @@ pub enum Wrong {
     None,
     /// Every hundredth.
     Hundredth,
-    /// Those of the crate `sheets`, each in every way; no other call is written.
+    /// Those of the crates `sheets` and `replay`, each in every way; no other call is written.
     Sheets,
 }
 
@@ -72,7 +72,7 @@ impl<W: Write> Takes for Lines<W> {
         self.count(written)
     }
     fn sheet(&mut self, c: line::SheetCall) {
-        let answer = sheets::answer(&c);
+        let answer = if c.op == replay::REPLAY { replay::answer(&c) } else { sheets::answer(&c) };
         let kinds = if self.wrong == Wrong::Sheets { (0..4).map(Some).collect() } else { vec![self.kind()] };
         for kind in kinds {
             let said = kind.map_or(answer.clone(), |kind| sheets::wrong(c.op, answer.clone(), kind));

@@ -3,11 +3,12 @@ use super::known::{Part, known, moves, placed};
 use super::memory::Memory;
 use crate::line::{Call, SheetCall};
 use crate::masks::{N_1_BLADES, VECTOR};
+use crate::replay::REPLAY;
 use crate::sheet_reader as ours;
 use crate::sheets::{READ, VALUE_AT, WRITE};
 
-/// Of a sheet call the first list has bytes (a sheet's, or the shapes', six each), patterns or numbers; the second patterns; the words only
-/// an index.
+/// Of a sheet call the first list has bytes (a sheet's, or the shapes', six each), patterns or numbers; the second patterns, or the bytes of a
+/// log; the words only an index, or a form.
 #[derive(Clone)]
 pub enum Asked {
     Values(Call),
@@ -16,7 +17,7 @@ pub enum Asked {
 
 /// The call names dimensions: in a word, by a count of numbers, or by the shapes of a sheet.
 pub fn has_dims(op: u64) -> bool {
-    known(op).parts.contains(&Part::Dims) || [VECTOR, N_1_BLADES, READ, WRITE, VALUE_AT].contains(&op)
+    known(op).parts.contains(&Part::Dims) || [VECTOR, N_1_BLADES, READ, WRITE, VALUE_AT, REPLAY].contains(&op)
 }
 
 /// More shapes than a sheet may have: a count of more, which no list of bytes can have, is taken for so many.
@@ -60,7 +61,7 @@ impl Asked {
                 let parts = placed(c.op, c.words.len());
                 parts.iter().filter(|(part, ..)| *part == Part::Dims).map(|(_, at, _)| c.words[*at]).max()
             }
-            Asked::Sheet(c) if c.op == READ => {
+            Asked::Sheet(c) if [READ, REPLAY].contains(&c.op) => {
                 let bytes: Vec<u8> = c.first.iter().map(|b| *b as u8).collect();
                 ours::read(&bytes).ok()?.shapes.iter().map(|s| s.dims.into()).max()
             }

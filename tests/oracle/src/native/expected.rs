@@ -7,6 +7,7 @@ use super::memory::Memory;
 use crate::answer;
 use crate::line::{Answer, Call, SheetAnswer, SheetCall};
 use crate::masks::{METRIC, ORDER_OF};
+use crate::replay::{self, REPLAY};
 use crate::rules::{dims, flavor, room};
 use crate::sheet_reader::Shape;
 use crate::sheets::{self, Listed, READ, VALUE_AT, WRITE};
@@ -126,6 +127,7 @@ fn listed(bytes: &[u64]) -> Listed {
 fn sheet_answer(c: &SheetCall) -> SheetAnswer {
     let mut a = match c.op {
         WRITE | VALUE_AT => sheets::of_shapes(c, listed(&c.first)),
+        REPLAY => replay::answer(c),
         _ => sheets::answer(c),
     };
     if c.op == READ && a.words[0] == 0 {
@@ -150,11 +152,16 @@ fn sheet(c: &SheetCall, m: &mut Memory) {
             m.bytes.put(shape(&words[1..]));
             m.counts.put([words[6] as usize].into_iter());
         }
+        REPLAY => {
+            m.bytes.put(shape(&words[1..]));
+            m.counts.put([words[6] as usize].into_iter());
+            m.bytes_right.put([words[7] as u8].into_iter());
+        }
         _ => m.counts.put([words[1] as usize].into_iter()),
     }
     match known(c.op).lends {
         Lends::Text => m.text.put(out.iter().map(|b| *b as u8)),
-        Lends::List => m.out.put(out.iter().map(|x| f64::from_bits(*x))),
+        Lends::List | Lends::Pose => m.out.put(out.iter().map(|x| f64::from_bits(*x))),
         Lends::Patterns | Lends::Sheet => m.patterns.put(out.into_iter()),
         _ => {}
     }

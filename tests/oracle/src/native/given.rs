@@ -2,6 +2,7 @@
 use super::memory::{FILLS, Lent};
 use crate::line::{Call, SheetCall};
 use crate::masks::TRY_FROM_STR;
+use crate::replay::REPLAY;
 use crate::sheets::{NUMBERS_OF, PATTERNS_OF, WRITE};
 
 #[derive(Clone)]
@@ -13,6 +14,7 @@ pub struct Given {
     b: Lent<f64>,
     pub bytes: Lent<u8>,
     pub patterns: Lent<u64>,
+    pub log: Lent<u8>,
     /// What is the same on both sides is handed over once: one address stands for both.
     is_shared: bool,
 }
@@ -36,6 +38,7 @@ impl Given {
             b: list(&c.b),
             bytes: if c.op == TRY_FROM_STR { bytes_of(&c.words, fill) } else { Lent::none() },
             patterns: Lent::none(),
+            log: Lent::none(),
             is_shared: fill == FILLS[0],
         }
     }
@@ -53,6 +56,7 @@ impl Given {
             b: Lent::none(),
             bytes: bytes_of(if [NUMBERS_OF, PATTERNS_OF].contains(&c.op) { &[] } else { &c.first }, fill),
             patterns: Lent::holding(patterns.iter().copied(), fill),
+            log: bytes_of(if c.op == REPLAY { &c.second } else { &[] }, fill),
             is_shared: false,
         }
     }
@@ -78,5 +82,6 @@ impl Given {
             && self.b.holds(&before.b)
             && self.bytes.holds(&before.bytes)
             && self.patterns.holds(&before.patterns)
+            && self.log.holds(&before.log)
     }
 }

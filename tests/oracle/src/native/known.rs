@@ -8,6 +8,7 @@ use crate::arithmetic::*;
 use crate::masks::*;
 use crate::products::*;
 use crate::refusals::ADDED_DIMS;
+use crate::replay::REPLAY;
 use crate::sheets::{NUMBERS_OF, PATTERNS_OF, READ, VALUE_AT, WRITE};
 
 /// The one call that no line has.
@@ -125,7 +126,7 @@ macro_rules! call {
 /// Those that move only move numbers or turn their signs: a NaN's payload is kept by each, and its sign too unless it is turned. So their answers
 /// are compared with the bits of NaNs; those of arithmetic, where machines differ, without.
 #[rustfmt::skip]
-const CALLS: [Known; 58] = [
+const CALLS: [Known; 59] = [
     call!(VERSION, NONE, Lends::Nothing, thresholm_version:),
     call!(METRIC, &[Beside, Flavor, Word("index")], Lends::Nothing, thresholm_metric: [shape 0] [byte 5]),
     call!(ADDED_DIMS, ONE_FLAVOR, Lends::Nothing, thresholm_added_dims: [shape 0]),
@@ -194,14 +195,16 @@ const CALLS: [Known; 58] = [
     call!(VALUE_AT, &[Word("index")], Lends::Place, thresholm_value_at: [in bytes] [size 0] [to shape] [to counts 0]),
     call!(NUMBERS_OF, NONE, Lends::List, thresholm_numbers_of: [in patterns] [lent out] [to counts 0]),
     call!(PATTERNS_OF, NONE, Lends::Patterns, thresholm_patterns_of: [in a] [lent patterns] [to counts 0]),
+    call!(REPLAY, &[Word("form")], Lends::Pose,
+        thresholm_replay: [byte 0] [in bytes] [in log] [lent out] [to shape] [to counts 0] [to right]),
 ];
 
 /// How many calls there are.
 pub const MANY: usize = CALLS.len();
 
 /// The place of each call, by its number.
-const ROWS: [Option<usize>; VERSION as usize + 1] = {
-    let mut rows = [None; VERSION as usize + 1];
+const ROWS: [Option<usize>; REPLAY as usize + 1] = {
+    let mut rows = [None; REPLAY as usize + 1];
     let mut i = 0;
     while i < MANY {
         rows[CALLS[i].number as usize] = Some(i);

@@ -32,6 +32,8 @@ pub enum Lends {
     Sheet,
     /// Six bytes for a shape, and where it starts.
     Place,
+    /// Those of a value, a count of steps, and the number of a refusal, which stands where a right value's shape would.
+    Pose,
 }
 
 /// How many lists of references there are: of bytes, those of a right value's shape, counts, pairs, orders and numbers.
@@ -58,6 +60,7 @@ impl Lends {
             Count | List | Text | Patterns | Masks => [0, 0, 1, 0, 0, 0],
             Start | Sheet => [0, 0, 2, 0, 0, 0],
             Place => [6, 0, 1, 0, 0, 0],
+            Pose => [6, 1, 1, 0, 0, 0],
         }
     }
 }

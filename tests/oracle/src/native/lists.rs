@@ -11,7 +11,7 @@ use crate::line::{Call, SheetCall};
 use crate::numbers::Rng;
 use crate::{
     arithmetic, arithmetic_lists, arithmetic_refused, corners, lists, masks, product_lists, product_whole, products,
-    refusals, sheet_damage, sheet_lists, sheets, whole_lists,
+    refusals, replay, replay_drawn, replay_lists, sheet_damage, sheet_lists, sheets, whole_lists,
 };
 
 /// Every byte of a shape; then, half of them with their shapes spelled in another way, all that is small, so many of each call from a seed, and the
@@ -24,7 +24,7 @@ pub fn compared(count: u64, seed: u64, to: &mut impl FnMut(Asked)) {
     on_values(&mut r, &mut |c| to(Asked::Values(c)));
     every_dims(&mut r, to);
     for _ in 0..count {
-        for op in numbers().filter(|op| !sheets::ALL.contains(op)) {
+        for op in numbers().filter(|op| !sheets::ALL.contains(op) && *op != replay::REPLAY) {
             to(drawn(&mut r, op));
         }
     }
@@ -33,6 +33,8 @@ pub fn compared(count: u64, seed: u64, to: &mut impl FnMut(Asked)) {
     sheet_lists::exhaustive(&mut |c| every_room(&mut r, c, to));
     sheet_damage::many(count, seed, &mut |c| to(on_sheets(&mut r, c)));
     shape_lists::as_bytes(&mut |c| to(Asked::Sheet(c)));
+    replay_lists::whole(&mut |c| to(Asked::Sheet(c)));
+    replay_drawn::many(count, seed, &mut |c| to(Asked::Sheet(c)));
 }
 
 /// What is listed whole of the calls on values.
@@ -74,6 +76,7 @@ pub fn drawn(r: &mut Rng, op: u64) -> Asked {
             let c = sheet_damage::random(r, op, 64);
             on_sheets(r, c)
         }
+        replay::REPLAY => Asked::Sheet(replay_drawn::random(r)),
         VERSION => Asked::Values(Call { op, ..Call::default() }),
         masks::PROMOTION => Asked::Values(more_lists::promotion(r, op)),
         _ => Asked::Values(lists::random(r, op, 9)),

@@ -188,7 +188,7 @@ impl Memory {
             pairs: lent(pairs, fill),
             order: lent(order, fill),
             values: lent(values, fill),
-            out: output(matches!(lends, Value | Values | Product | Taken | List), room, fill),
+            out: output(matches!(lends, Value | Values | Product | Taken | List | Pose), room, fill),
             right: output(lends == Values, room_right, fill),
             masks: output(lends == Masks, room, fill),
             places: output(lends == Masks, room_right, fill),

@@ -15,6 +15,7 @@ mod moves;
 mod nan_lists;
 mod plain;
 mod planted;
+mod planted_replay;
 mod print;
 pub mod run;
 mod shape_lists;

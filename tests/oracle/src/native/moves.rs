@@ -1,6 +1,7 @@
 //! Single steps that may make a call smaller.
 use super::known::{Part, placed};
 use super::plain::Plain;
+use crate::replay::REPLAY;
 use crate::sheet_reader::{self as ours, Shape, Sheet};
 use crate::sheets::{READ, VALUE_AT, WRITE, shape_words};
 use std::ops::Range;
@@ -55,7 +56,7 @@ impl Marked {
     fn of(c: &Plain) -> Option<Marked> {
         let [first, second] = &c.lists;
         match c.op {
-            READ => {
+            READ | REPLAY => {
                 let sheet = ours::read(&first.iter().map(|w| *w as u8).collect::<Vec<u8>>()).ok()?;
                 Some(Marked { marks: vec![0; sheet.shapes.len()], shapes: sheet.shapes, patterns: sheet.patterns })
             }
@@ -72,11 +73,11 @@ impl Marked {
             _ => None,
         }
     }
-    /// The lists of a call that reads or writes it.
-    fn lists(self, op: u64) -> [Vec<u64>; 2] {
-        if op == READ {
+    /// The lists of a call that reads, replays or writes it; a log stays as it is.
+    fn lists(self, op: u64, log: Vec<u64>) -> [Vec<u64>; 2] {
+        if [READ, REPLAY].contains(&op) {
             let bytes = ours::write(&Sheet { shapes: self.shapes, patterns: self.patterns });
-            return [bytes.into_iter().map(u64::from).collect(), vec![]];
+            return [bytes.into_iter().map(u64::from).collect(), log];
         }
         let six = |(s, mark): (&Shape, u64)| shape_words(s).into_iter().chain([mark]);
         [self.shapes.iter().zip(self.marks).flat_map(six).collect(), self.patterns]
@@ -110,8 +111,16 @@ impl Marked {
 fn with_sheet(c: &mut Plain, change: impl FnOnce(&mut Marked) -> Option<()>) -> Option<()> {
     let mut s = Marked::of(c)?;
     change(&mut s)?;
-    c.lists = s.lists(c.op);
+    c.lists = s.lists(c.op, std::mem::take(&mut c.lists[1]));
     Some(())
+}
+
+/// The values after one that is left out have a lower index in a log; what named it names the one before.
+fn renumber(c: &mut Plain, i: usize) {
+    if c.op == REPLAY {
+        let named = c.lists[1].chunks_mut(2).filter(|step| step.len() == 2 && [0, 1, 4].contains(&step[0]));
+        named.for_each(|step| step[1] -= (step[1] > 0 && step[1] >= i as u64) as u64);
+    }
 }
 
 impl Move {
@@ -137,7 +146,10 @@ impl Move {
             }
             Move::Mark(which, mark) => c.marks[*which] = *mark,
             Move::Room(which, room) => c.rooms[*which] = *room,
-            Move::DropShape(i) => with_sheet(&mut c, |s| s.drop_shape(*i))?,
+            Move::DropShape(i) => {
+                with_sheet(&mut c, |s| s.drop_shape(*i))?;
+                renumber(&mut c, *i)
+            }
             Move::LowerShape(i, half) => with_sheet(&mut c, |s| s.lower_shape(*i, *half))?,
             Move::PlainShape(i) => with_sheet(&mut c, |s| s.plain_shape(*i))?,
             Move::Pattern(i, x) => with_sheet(&mut c, |s| s.patterns.get_mut(*i).map(|pattern| *pattern = *x))?,
@@ -154,6 +166,9 @@ pub fn moves(c: &Plain) -> Vec<Move> {
     }
     if let Some(s) = Marked::of(c) {
         sheet_moves(&s, &mut all);
+    }
+    if c.op == REPLAY {
+        step_moves(c.lists[1].len() / 2, &mut all);
     }
     if [WRITE, VALUE_AT].contains(&c.op) {
         all.extend((0..c.lists[0].len() / 6).rev().map(|i| Move::Drop(0, 6 * i..6 * i + 6)));
@@ -179,10 +194,17 @@ fn sheet_moves(s: &Marked, all: &mut Vec<Move>) {
         shapes.clone().flat_map(|i| (0..2 * s.shapes[i].dims as usize).map(move |k| Move::LowerShape(i, k % 2))),
     );
     all.extend(shapes.map(Move::PlainShape));
-    all.extend(
-        (0..s.patterns.len())
-            .flat_map(|i| [0, s.patterns[i] & s.patterns[i].wrapping_sub(1)].map(|x| Move::Pattern(i, x))),
-    );
+    let plain = |x: u64| [0, 1f64.to_bits(), x & x.wrapping_sub(1), x & u64::MAX << 48];
+    all.extend((0..s.patterns.len()).flat_map(|i| plain(s.patterns[i]).map(|x| Move::Pattern(i, x))));
+}
+
+/// Ever smaller parts of a log are left out.
+fn step_moves(n: usize, all: &mut Vec<Move>) {
+    let mut part = n;
+    while part > 0 {
+        all.extend((0..n).step_by(part).rev().map(|from| Move::Drop(1, 2 * from..2 * n.min(from + part))));
+        part /= 2;
+    }
 }
 
 /// Ever smaller parts are left out or set to 0; then each is tried as a plain number, and with fewer digits.

@@ -5,6 +5,7 @@ use super::known::{MANY, known, numbers};
 use super::lists::drawn;
 use super::memory::{AROUND, Cells, Memory};
 use super::plain::Plain;
+use super::planted_replay;
 use super::run::{Comparison, difference};
 use super::shrink::shrunk;
 use super::spelling::spelled;
@@ -171,15 +172,29 @@ const FAULTS: [Planted; 17] = [
     },
 ];
 
+/// A fault of one call: what is wrong, a port that has it, and what the smallest call is like.
+pub struct Fault<P = fn(&Plain, u8) -> Memory> {
+    pub op: u64,
+    pub when: &'static str,
+    pub port: P,
+    pub is_small: fn(&Plain) -> bool,
+}
+
+impl Planted {
+    /// The exports, and then what is wrong.
+    fn fault(&self) -> Fault<impl Fn(&Plain, u8) -> Memory> {
+        let port = |c: &Plain, fill: u8| {
+            let mut m = actual(&c.asked(), fill);
+            (self.spoil)(c, &mut m);
+            m
+        };
+        Fault { op: self.op, when: self.when, port, is_small: self.is_small }
+    }
+}
+
 /// Draws calls until one differs, and says whether it is made as small as it can be.
-fn check_one(fault: &Planted, seed: u64) {
-    let port = |asked: &Asked, fill: u8| {
-        let mut m = actual(asked, fill);
-        if asked.op() == fault.op {
-            (fault.spoil)(&Plain::of(asked), &mut m);
-        }
-        m
-    };
+fn check_one(fault: Fault<impl Fn(&Plain, u8) -> Memory>, seed: u64) {
+    let port = |asked: &Asked, fill: u8| (fault.port)(&Plain::of(asked), fill);
     let (mut comparison, mut r) = (Comparison::new(&port), Rng(seed));
     for _ in 0..50_000 {
         if comparison.first().is_none() {
@@ -230,8 +245,7 @@ fn every_call(seed: u64) {
 
 /// Says whether each fault is found and its call made small.
 pub fn check(seed: u64) {
-    for fault in &FAULTS {
-        check_one(fault, seed);
-    }
+    FAULTS.iter().for_each(|planted| check_one(planted.fault(), seed));
+    planted_replay::FAULTS.into_iter().for_each(|fault| check_one(fault, seed));
     every_call(seed);
 }

@@ -5,6 +5,7 @@ use super::lends::{Lends, REFERENCES};
 use super::memory::{AROUND, Cell, Cells, LISTS, filled};
 use super::run::Difference;
 use crate::line::{Call, SheetCall};
+use crate::replay::REPLAY;
 use crate::sheets::{NUMBERS_OF, PATTERNS_OF, READ, VALUE_AT, WRITE};
 
 /// So many numbers of a list are printed one by one; of more, only those that are not 0, or that differ.
@@ -64,7 +65,7 @@ pub fn call(asked: &Asked) {
         Asked::Sheet(c) => {
             let hex = |list: &[u64]| list.iter().map(|x| format!("{x:x}")).collect();
             match c.op {
-                READ => list("bytes", hex(&c.first)),
+                READ | REPLAY => list("bytes", hex(&c.first)),
                 WRITE | VALUE_AT => list("bytes of shapes", hex(&c.first)),
                 NUMBERS_OF => list("patterns", hex(&c.first)),
                 PATTERNS_OF => {
@@ -72,8 +73,10 @@ pub fn call(asked: &Asked) {
                 }
                 _ => {}
             }
-            if c.op == WRITE {
-                list("patterns", hex(&c.second));
+            match c.op {
+                WRITE => list("patterns", hex(&c.second)),
+                REPLAY => list("steps", c.second.chunks(2).map(|step| format!("{step:x?}")).collect()),
+                _ => {}
             }
         }
     }
@@ -95,12 +98,14 @@ fn references(lends: Lends) -> [&'static [&'static str]; REFERENCES] {
     };
     let counts: &[&str] = match lends {
         Lends::Start => &["to_start", "to_count"],
+        Lends::Pose => &["to_steps"],
         Lends::Sheet => &["to_shapes", "to_count"],
         Lends::Place => &["to_start"],
         _ => &["to_count"],
     };
     let values: &[&str] = if lends == Lends::Test { &["to_re", "to_im"] } else { &["to_value"] };
-    [bytes, &RIGHT, counts, &["to_pairs"], &["to_order"], values]
+    let right: &[&str] = if lends == Lends::Pose { &["to_stopped"] } else { &RIGHT };
+    [bytes, right, counts, &["to_pairs"], &["to_order"], values]
 }
 
 /// The name of a cell: a reference's, or the output's with the place; before and after what is lent there are cells too.

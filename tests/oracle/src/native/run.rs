@@ -4,9 +4,10 @@ use super::asked::Asked;
 use super::calls;
 use super::expected::expected;
 use super::known::{MANY, known, numbers, row};
-use super::memory::{FILLS, Memory};
+use super::memory::{AROUND, Cells, FILLS, Memory};
 use super::table::Table;
 use super::{print, shrink};
+use crate::replay::REPLAY;
 use crate::sheets::READ;
 use std::panic::{AssertUnwindSafe, catch_unwind};
 
@@ -36,6 +37,42 @@ pub fn difference(port: Port, asked: &Asked) -> Option<Difference> {
     })
 }
 
+/// The least number of replays.
+const LEAST_REPLAYS: u64 = 200_000;
+
+/// How the replays ended, and how many steps were carried out.
+#[derive(Default)]
+struct Replays {
+    whole: u64,
+    halted: u64,
+    stopped: u64,
+    refused: u64,
+    steps: u64,
+}
+
+impl Replays {
+    /// A replay of a log of so many steps, by what must be left.
+    fn count(&mut self, log: usize, wanted: &Memory) {
+        let (steps, stopped) = (wanted.counts.bits(AROUND), wanted.bytes_right.bits(AROUND));
+        let ended = match wanted.returned {
+            0 if stopped > 0 => &mut self.stopped,
+            0 if steps < log as u64 => &mut self.halted,
+            0 => &mut self.whole,
+            _ => &mut self.refused,
+        };
+        *ended += 1;
+        self.steps += if wanted.returned == 0 { steps } else { 0 };
+    }
+    fn says(&self) {
+        let Replays { whole, halted, stopped, refused, steps } = self;
+        let is_enough = [whole, halted, stopped, refused].iter().all(|n| **n > 0);
+        let start = if is_enough && whole + halted + stopped >= LEAST_REPLAYS { "ok" } else { "FAILED" };
+        println!(
+            "{start}: replays among them: {whole} of whole logs, {halted} that a halt ends before, {stopped} that stop at a refused step, {refused} refused; {steps} steps"
+        );
+    }
+}
+
 pub struct Comparison<'a> {
     port: Port<'a>,
     made: u64,
@@ -44,6 +81,7 @@ pub struct Comparison<'a> {
     /// Of the sheets that were read, as our own reader judges them.
     good: u64,
     malformed: u64,
+    replays: Replays,
     first: Option<(u64, Asked)>,
     /// How many differ, of each call.
     differ: [u64; MANY],
@@ -52,7 +90,8 @@ pub struct Comparison<'a> {
 impl<'a> Comparison<'a> {
     pub fn new(port: Port<'a>) -> Self {
         let (made, agree, good, malformed) = (0, 0, 0, 0);
-        Comparison { port, made, agree, table: Table::new(), good, malformed, first: None, differ: [0; MANY] }
+        let (replays, first) = (Replays::default(), None);
+        Comparison { port, made, agree, table: Table::new(), good, malformed, replays, first, differ: [0; MANY] }
     }
     /// Compares one call, with either fill in turn, in an order that no list has.
     pub fn call(&mut self, asked: Asked) {
@@ -63,6 +102,9 @@ impl<'a> Comparison<'a> {
         };
         if asked.op() == READ {
             *(if wanted.returned == 9 { &mut self.malformed } else { &mut self.good }) += 1
+        }
+        if let (REPLAY, Asked::Sheet(c)) = (asked.op(), &asked) {
+            self.replays.count(c.second.len() / 2, &wanted)
         }
         self.table.count(&asked, wanted.is_refused(known(asked.op()).lends));
         if wanted.same(&(self.port)(&asked, fill)) { self.agree += 1 } else { self.differs(asked) }
@@ -104,6 +146,7 @@ impl<'a> Comparison<'a> {
         println!("{start}: at least {LEAST} calls were compared");
         let start = if self.good > 0 && self.malformed > 0 { "ok" } else { "FAILED" };
         println!("{start}: sheets read among them: {} good and {} malformed", self.good, self.malformed);
+        self.replays.says();
     }
 }
 
