@@ -2,6 +2,7 @@
 // this folder's `stdin` says how a call is written and how the list was made.
 mod calls;
 mod compare;
+mod replays;
 mod shapes;
 mod sheet_calls;
 mod sheet_lines;
@@ -75,11 +76,12 @@ enum Line {
     Call(bool),
 }
 
-// Whether the call of a line gives what the line says. The calls of the crate `sheets` have lines of their own.
+// Whether the call of a line gives what the line says. The calls of the crates `sheets` and `replay` have lines of their own.
 fn agrees(t: &[u8], bytes: &mut [u8], patterns: &mut [u64], numbers: &mut [f64]) -> bool {
     let op = words::word_at(t, 0).value;
     match op {
         57..=61 => sheet_calls::agrees(t, bytes, patterns, numbers),
+        64 => replays::agrees(t, bytes, numbers),
         _ => compare::agrees(t),
     }
 }
