@@ -19,6 +19,7 @@ static void all(void) {
     group("values", values);
     group("compare", compare);
     group("sheet", sheet);
+    group("replay", replay);
     group("each kind of flavor", kinds);
     group("nine dimensions", nine);
     group("the bits of NaNs", nan_bits);

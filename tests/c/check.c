@@ -133,9 +133,10 @@ void want_patterns(const uint64_t *patterns, size_t count) {
 static const struct {
     const char *name;
     size_t begin;
-} parts[] = {PART(shape), PART(shape_right), PART(test),     PART(yes),   PART(order),  PART(pairs), PART(shapes),
-             PART(count), PART(start),       PART(value),    PART(re),    PART(im),     PART(out),   PART(out_right),
-             PART(masks), PART(places),      PART(patterns), PART(bytes), PART(listed), PART(given), PART(given_list)};
+} parts[] = {PART(shape),     PART(shape_right), PART(test),   PART(yes),      PART(stopped), PART(order),
+             PART(pairs),     PART(shapes),      PART(count),  PART(start),    PART(steps),   PART(value),
+             PART(re),        PART(im),          PART(out),    PART(out_right), PART(masks),  PART(places),
+             PART(patterns),  PART(bytes),       PART(listed), PART(given),    PART(given_list)};
 
 /* NaN is given the one pattern that patterns_of gives it. */
 static void one_nan(double *x, size_t count) {
@@ -226,7 +227,7 @@ void group(const char *name, void (*run)(void)) {
 void say_numbers(void) {
     for (size_t i = 0; i < CALLS; i++) {
         printf("thresholm_%s", names[i]);
-        for (int k = 1; k <= THRESHOLM_MALFORMED; k++)
+        for (int k = 1; k <= THRESHOLM_BAD_LOG; k++)
             if (made[i].refused >> k & 1) printf(" %d", k);
         printf("\n");
     }

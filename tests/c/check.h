@@ -18,10 +18,10 @@
 
 typedef struct Got {
     thresholm_shape shape, shape_right;
-    uint8_t test, yes;
+    uint8_t test, yes, stopped;
     int8_t order;
     uint32_t pairs;
-    size_t shapes, count, start;
+    size_t shapes, count, start, steps;
     double value, re, im;
     double out[ROOM], out_right[ROOM];
     uint16_t masks[ROOM], places[ROOM];
@@ -120,6 +120,7 @@ void operators(void);
 void values(void);
 void compare(void);
 void sheet(void);
+void replay(void);
 void kinds(void);
 void nine(void);
 void nan_bits(void);

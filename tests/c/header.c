@@ -34,9 +34,9 @@ static int as_many(unsigned number) {
 
 /* Each number has a text of its own, and those that no call returns have one together. */
 static void texts(void) {
-    for (unsigned number = 0; number <= THRESHOLM_MALFORMED; number++)
+    for (unsigned number = 0; number <= THRESHOLM_BAD_LOG; number++)
         HOLDS(refusal_text, thresholm_refusal_text((uint8_t)number)[0] != 0 && as_many(number) == 1);
-    HOLDS(refusal_text, thresholm_refusal_text(255)[0] != 0 && as_many(255) == 255 - THRESHOLM_MALFORMED);
+    HOLDS(refusal_text, thresholm_refusal_text(255)[0] != 0 && as_many(255) == 255 - THRESHOLM_BAD_LOG);
 }
 
 void header(void) {

@@ -1,6 +1,9 @@
 /* Null pointers of length 0, as inputs and as outputs. */
 #include "check.h"
 
+/* One Vanilla 0. */
+static const uint8_t sheet_of_zero[19] = {1, 0, 0, 0, 0, 0, 0, 1};
+
 /* Where nothing is what the call needs. */
 static void done(void) {
     static const uint8_t empty[6] = {0, 0, 0, 0, 0, 0};
@@ -17,6 +20,9 @@ static void done(void) {
     CALL(0, numbers_of, NOTHING, NOTHING, &got.count);
     want.count = 0;
     CALL(0, patterns_of, NOTHING, NOTHING, &got.count);
+    want_value(VGA(0), LENT(zero));
+    want.steps = want.stopped = 0;
+    CALL(0, replay, 1, LENT(sheet_of_zero), NOTHING, OUT(512), TO_SHAPE, &got.steps, &got.stopped);
 }
 
 /* No value has no numbers, so neither an input nor an output fits. First stands what is reported to, then what is given
@@ -95,6 +101,8 @@ static void input_or_output(void) {
     CALL(2, value_at, NOTHING, 0, TO_SHAPE, &got.start);
     CALL(3, numbers_of, got.patterns, 1, NOTHING, &got.count);
     CALL(3, patterns_of, FIRST(1), NOTHING, &got.count);
+    CALL(9, replay, 1, NOTHING, NOTHING, NOTHING, TO_SHAPE, &got.steps, &got.stopped);
+    CALL(3, replay, 1, LENT(sheet_of_zero), NOTHING, NOTHING, TO_SHAPE, &got.steps, &got.stopped);
 }
 
 void nulls(void) {
