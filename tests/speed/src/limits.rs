@@ -17,6 +17,13 @@ const PRODUCTS: &[(&str, &str)] = &[
     ("div", "by scalar and vector"),
     ("powi", ""),
 ];
+/// Rows without dimensions that have a limit of their own: replay, against the Rust and against our own calls.
+const OWN: &[(&str, &str, f64)] = &[
+    ("replay", "8 values, against the Rust", 0.65),
+    ("replay", "64 values, against the Rust", 0.65),
+    ("replay", "8 values, against our own calls", 1.1),
+    ("replay", "64 values, against our own calls", 1.1),
+];
 const PRODUCTS_DIMS: u8 = 6;
 const PRODUCTS_MOST: f64 = 0.65;
 const OTHERS_MOST: f64 = 1.0;
@@ -43,7 +50,10 @@ fn names((call, of): &(&str, &str), row: (&str, &str)) -> bool {
 }
 
 /// The ratio that a row may have at most.
-fn most(call: &str, of: &str, d: Option<u8>) -> f64 {
+pub fn most(call: &str, of: &str, d: Option<u8>) -> f64 {
+    if let Some((_, _, most)) = OWN.iter().find(|(c, o, _)| (*c, *o) == (call, of)) {
+        return *most;
+    }
     let few = d.is_some_and(|d| d <= PRODUCTS_DIMS);
     if few && PRODUCTS.iter().any(|p| names(p, (call, of))) { PRODUCTS_MOST } else { OTHERS_MOST }
 }
@@ -71,7 +81,8 @@ impl Entry<'_> {
 
 /// Every row that has a limit of its own must be one of those that are timed.
 pub fn known(rows: &[(&str, &str)]) -> Result<(), String> {
-    match PRODUCTS.iter().find(|p| !rows.iter().any(|row| names(p, *row))) {
+    let own = OWN.iter().map(|(call, of, _)| (*call, *of));
+    match PRODUCTS.iter().copied().chain(own).find(|p| !rows.iter().any(|row| names(p, *row))) {
         Some((call, of)) => Err(format!("a limit is given for {call} {of}, which is no row")),
         None => Ok(()),
     }
@@ -79,6 +90,10 @@ pub fn known(rows: &[(&str, &str)]) -> Result<(), String> {
 
 const fn made_up(call: &'static str, of: &'static str, d: u8, ratio: f64) -> Entry<'static> {
     Entry { call, of, d: Some(d), ours: 100.0, ratio, floor: None }
+}
+
+const fn made_up_replay(of: &'static str, ratio: f64) -> Entry<'static> {
+    Entry { call: "replay", of, d: None, ours: 100.0, ratio, floor: None }
 }
 
 const SMALL: Entry = Entry { call: "metric", of: "", d: None, ours: 2.5, ratio: 1.2, floor: Some([1.3, 1.2]) };
@@ -92,6 +107,8 @@ const WITHIN: &[Entry] = &[
     made_up("add", "a value", 4, 1.0049),
     SMALL,
     Entry { ours: 9.0, ratio: 1.0, ..SMALL },
+    made_up_replay("64 values, against the Rust", 0.65),
+    made_up_replay("8 values, against our own calls", 1.1),
 ];
 const ABOVE: &[(Entry, &str)] = &[
     (made_up("general_product", "Vanilla", 2, 0.66), "`general_product`, Vanilla, d = 2: 0.66, at most 0.65"),
@@ -99,6 +116,11 @@ const ABOVE: &[(Entry, &str)] = &[
     (made_up("mul", "by a value", 7, 1.01), "`mul`, by a value, d = 7: 1.01, at most 1.00"),
     (made_up("mul", "by a scalar", 2, 1.01), "`mul`, by a scalar, d = 2: 1.01, at most 1.00"),
     (Entry { ours: 2.51, ..SMALL }, "`metric`: 1.20, at most 1.00; or 2.50 ns, the floor 1.30 and 1.20: it takes 2.51"),
+    (made_up_replay("64 values, against the Rust", 0.66), "`replay`, 64 values, against the Rust: 0.66, at most 0.65"),
+    (
+        made_up_replay("8 values, against our own calls", 1.11),
+        "`replay`, 8 values, against our own calls: 1.11, at most 1.10",
+    ),
 ];
 
 /// Wrong ratios are tried first: those above a limit are named, and those within it are not.

@@ -13,6 +13,7 @@ mod limits;
 mod measure;
 mod print;
 mod products;
+mod replays;
 mod shapes;
 #[path = "../../../rust/src/sys.rs"]
 mod sys;

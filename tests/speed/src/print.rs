@@ -72,6 +72,15 @@ fn print_plain(t: &Tables) {
     }
 }
 
+/// The replays, each with its limit.
+fn print_replays(t: &Tables) {
+    println!("| 200 `*` at d = 4 | of what | ratio | at most | ns | spread |\n|---|---|---|---|---|---|");
+    for l in &t.replays {
+        let (ratio, most) = (ratio(t, l, 0), limits::most(l.row.call, l.row.of, None));
+        println!("| `{}` | {} | {ratio} | {most:.2} | {} | {} |", l.row.call, l.row.of, ours(&l.cells[0]), spread(l));
+    }
+}
+
 fn print_alone(t: &Tables) {
     println!();
     print_head("call that the Rust has not, in ns | of what", " why there is no ratio |");
@@ -118,6 +127,8 @@ pub fn all() -> Result<(), String> {
     print_counts(&tables);
     print_plain(&tables);
     println!();
+    print_replays(&tables);
+    println!();
     print_floors(&tables);
     print_alone(&tables);
     Ok(())
@@ -130,7 +141,7 @@ pub fn check() -> Result<(), String> {
     print_machine();
     print_floors(&tables);
     println!();
-    let lines = tables.compared.iter().chain(&tables.plain);
+    let lines = tables.compared.iter().chain(&tables.plain).chain(&tables.replays);
     let (mut count, mut above) = (0, 0);
     for (l, k) in lines.flat_map(|l| (0..l.cells.len()).map(move |k| (l, k))) {
         let Some(entry) = tables.entry(l, k) else { continue };
@@ -147,7 +158,7 @@ pub fn check() -> Result<(), String> {
 /// The lines of the calls that are named.
 fn named_lines(named: &[String]) -> Result<Vec<Line>, String> {
     let some: Vec<Line> = Tables::new().calls().filter(|l| named.iter().any(|n| n == l.row.call)).collect();
-    match named.iter().find(|name| some.iter().all(|l| l.row.call != **name)) {
+    match named.iter().find(|name| *name != "replay" && some.iter().all(|l| l.row.call != **name)) {
         Some(name) => Err(format!("no call is named {name}")),
         None => Ok(some),
     }
@@ -156,12 +167,18 @@ fn named_lines(named: &[String]) -> Result<Vec<Line>, String> {
 /// Measures and prints the time of the calls that are named, of their floors, and of the loop without a call, in nanoseconds.
 pub fn named(named: &[String]) -> Result<(), String> {
     let (mut lines, mut loops) = (named_lines(named)?, vec![line(&alone::LOOP, "", &DIMS[..1])]);
-    let mut floors = Tables::new().floors;
-    floors.retain(|l| named.iter().any(|n| n == l.row.call));
-    timed(&mut [&mut lines, &mut floors, &mut loops], NAMED_PASSES)?;
+    let mut tables = Tables::new();
+    for list in [&mut tables.floors, &mut tables.replays] {
+        list.retain(|l| named.iter().any(|n| n == l.row.call));
+    }
+    timed(&mut [&mut lines, &mut tables.floors, &mut tables.replays, &mut loops], NAMED_PASSES)?;
     print_machine();
+    if !tables.replays.is_empty() {
+        print_replays(&tables);
+        println!();
+    }
     print_head("ns of | of what", " spread |");
-    for (lines, more) in [(lines, ""), (floors, ": its floor"), (loops, "")] {
+    for (lines, more) in [(lines, ""), (tables.floors, ": its floor"), (loops, "")] {
         for l in lines {
             let time = |c: &Cell| c.ours().map_or(REFUSED.into(), |x| format!("{x:.2}"));
             let times = at_each(|k| l.cells.get(k).map_or(String::new(), time));

@@ -1,7 +1,7 @@
 //! What is timed: the rows, and for each what was measured.
 use crate::limits::{self, Entry};
 use crate::measure::{Cell, MANY_DIMS, Timed};
-use crate::{alone, arithmetic, building, flavors, floors, products, shapes};
+use crate::{alone, arithmetic, building, flavors, floors, products, replays, shapes};
 use std::collections::BTreeSet;
 
 /// The dimensions that are timed.
@@ -33,10 +33,11 @@ pub struct Line {
     pub cells: Vec<Cell>,
 }
 
-/// The lines of the tables: against the Rust, against it without dimensions, alone, and the floors of small calls.
+/// The lines of the tables: against the Rust, against it without dimensions, of replay, alone, and the floors of small calls.
 pub struct Tables {
     pub compared: Vec<Line>,
     pub plain: Vec<Line>,
+    pub replays: Vec<Line>,
     pub alone: Vec<Line>,
     pub floors: Vec<Line>,
 }
@@ -51,20 +52,21 @@ impl Tables {
         Tables {
             compared: rows.map(|row| line(row, "", &DIMS)).collect(),
             plain: flavors::ROWS.iter().map(|row| line(row, "", &DIMS[..1])).collect(),
+            replays: replays::ROWS.iter().map(|row| line(row, "", &DIMS[..1])).collect(),
             alone: alone::ROWS.iter().map(|lone| line(&lone.row, lone.why, &DIMS)).collect(),
             floors: floors::SMALL.iter().map(|small| line(&small.floor, "", &DIMS[..1])).collect(),
         }
     }
 
-    /// The lines of calls, without the floors.
+    /// The lines of calls, without the floors and the replays.
     pub fn calls(self) -> impl Iterator<Item = Line> {
         self.compared.into_iter().chain(self.plain).chain(self.alone)
     }
 
-    /// Every call that is listed must be in one of the tables, and every row that has a limit or a floor in one of the first two.
+    /// Every call that is listed must be in one of the tables, and every row that has a limit or a floor in one of the first three.
     fn complete(&self, listed: &[&'static str]) -> Result<(), String> {
         let listed: BTreeSet<&str> = listed.iter().copied().collect();
-        let against = || self.compared.iter().chain(&self.plain);
+        let against = || self.compared.iter().chain(&self.plain).chain(&self.replays);
         let timed: BTreeSet<&str> = against().chain(&self.alone).map(|l| l.row.call).collect();
         let missing: Vec<&&str> = listed.symmetric_difference(&timed).collect();
         if !missing.is_empty() {
@@ -82,8 +84,8 @@ impl Tables {
     pub fn measured(listed: &[&'static str]) -> Result<Self, String> {
         let mut tables = Self::new();
         tables.complete(listed)?;
-        let Tables { compared, plain, alone, floors } = &mut tables;
-        timed(&mut [compared, plain, alone, floors], PASSES)?;
+        let Tables { compared, plain, replays, alone, floors } = &mut tables;
+        timed(&mut [compared, plain, replays, alone, floors], PASSES)?;
         Ok(tables)
     }
 
