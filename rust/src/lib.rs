@@ -6,7 +6,7 @@
 //! - [`Multivector`]: a value, with its [`Shape`] (dimensions 0 to 9 and a [`Flavor`]) and its 2^d numbers.
 //! - [`Sheet`]: the rig sheet, values as bytes, in which even the bits of a NaN are kept; [`rig`] reads and writes it as text.
 //! - [`Log`]: the steps that [`Sheet::replay`] carries out over a sheet's values; [`log`] reads and writes them as text.
-//! - [`bound`]: what is guaranteed for the numbers of a product.
+//! - [`bound`]: what is guaranteed for the numbers of a product, and of a whole chain of steps; [`Sheet::reel`] gives it at each cue of a log.
 //! - [`Error`]: why a call was refused, one variant for each refusal number.
 //! - [`lent`]: the same calls on the caller's slices, for callers that own their memory.
 //!
@@ -77,6 +77,7 @@ pub mod rig;
 
 // Logs of steps over sheets, and their replay.
 pub mod log;
+mod reel;
 mod replay;
 
 pub use error::Error;
@@ -85,6 +86,7 @@ pub use log::{Log, MAX_STEPS, Step};
 pub use multivector::Multivector;
 pub use order::Order;
 pub use products::Product;
+pub use reel::Reel;
 pub use replay::Replay;
 pub use shape::{MAX_BLADES, MAX_DIMS, Shape};
 pub use sheet::{MAX_PATTERNS, MAX_SHAPES, Sheet, Values};

@@ -12,6 +12,9 @@
 //! out n, T, p and q for the given numbers, in whole numbers of any length: a bound is rounded only where it is printed or made an `f64`, and then
 //! upward. It is tested, and not proved.
 //!
+//! That is about one product of given numbers. A [`Chain`] goes on with what comes out, and has for each number a distance from the exact product of
+//! the whole chain, the smaller of what two rules give. Those rules are tested, and not machine-checked.
+//!
 //! ```
 //! use thresholm::bound::{self, Guarantee};
 //! use thresholm::{Flavor, Multivector};
@@ -29,18 +32,26 @@
 //! assert_eq!(limit.to_string(), "1.55e-14");
 //! # Ok::<(), thresholm::Error>(())
 //! ```
+mod chain;
 mod factor;
 mod guarantee;
+mod norms;
+mod opened;
+mod pairs;
 mod size;
+mod step;
 mod whole;
 
+pub use chain::Chain;
 pub use guarantee::{Bound, Coefficient, Guarantee, Outside};
+pub use opened::{Opened, Opening};
 pub use size::Size;
 
 use crate::error::Error;
 use crate::multivector::Multivector;
 use crate::shape::Shape;
 use factor::Factor;
+use pairs::{Kind, Pairs};
 
 /// What is guaranteed of [`Multivector::general_product`]. Refused as that product is, with [`Error::TooManyDims`].
 ///
@@ -55,23 +66,60 @@ use factor::Factor;
 /// # Ok::<(), thresholm::Error>(())
 /// ```
 pub fn of_general_product(left: &Multivector, right: &Multivector) -> Result<Bound, Error> {
+    of_product(Kind::All, left, right)
+}
+
+/// The same of [`Multivector::left_contraction`].
+pub fn of_left_contraction(left: &Multivector, right: &Multivector) -> Result<Bound, Error> {
+    of_product(Kind::Left, left, right)
+}
+
+/// The same of [`Multivector::right_contraction`].
+pub fn of_right_contraction(left: &Multivector, right: &Multivector) -> Result<Bound, Error> {
+    of_product(Kind::Right, left, right)
+}
+
+/// The same of [`Multivector::inner_product`].
+pub fn of_inner_product(left: &Multivector, right: &Multivector) -> Result<Bound, Error> {
+    of_product(Kind::Inner, left, right)
+}
+
+/// The same of [`Multivector::outer_product`].
+pub fn of_outer_product(left: &Multivector, right: &Multivector) -> Result<Bound, Error> {
+    of_product(Kind::Outer, left, right)
+}
+
+/// The same of one of the five products.
+fn of_product(kind: Kind, left: &Multivector, right: &Multivector) -> Result<Bound, Error> {
     let met = left.shape().met_dims(right.shape());
     if left.dims() == met && right.dims() == met {
-        return of_conformed(left.shape(), left.numbers(), right.numbers());
+        return of_conformed(kind, left.shape(), left.numbers(), right.numbers());
     }
     let (left, right) = left.conform(right)?;
-    of_conformed(left.shape(), left.numbers(), right.numbers())
+    of_conformed(kind, left.shape(), left.numbers(), right.numbers())
 }
 
 /// The same of two values that are conformed: the metric is the left one's.
-fn of_conformed(shape: Shape, left: &[f64], right: &[f64]) -> Result<Bound, Error> {
+fn of_conformed(kind: Kind, shape: Shape, left: &[f64], right: &[f64]) -> Result<Bound, Error> {
+    let pairs = Pairs::new(kind, shape);
+    of_pairs(shape, left, right, |mask| pairs.of(mask))
+}
+
+/// The same of `*` by a scalar on the right, as a value of the left one's shape: one pair a coefficient.
+fn of_scaled(shape: Shape, left: &[f64], right: &[f64]) -> Result<Bound, Error> {
+    of_pairs(shape, left, right, std::iter::once)
+}
+
+/// The same, given the contributing pairs of each mask.
+fn of_pairs<P>(shape: Shape, left: &[f64], right: &[f64], pairs: impl Fn(usize) -> P) -> Result<Bound, Error>
+where
+    P: Iterator<Item = usize> + Clone,
+{
     let order = shape.order()?;
-    let null = (0..shape.dims()).filter(|index| shape.flavor().metric(*index) == 0);
-    let null = null.fold(0, |mask, index| mask | 1 << index);
     let [left, right] = [left, right].map(|numbers| Factor::new(numbers, order.places()));
     let coefficient = |mask: &u16| {
         let mask = usize::from(*mask);
-        left.coefficient(&right, mask, (0..order.masks().len()).filter(|a| a & (a ^ mask) & null == 0))
+        left.coefficient(&right, mask, pairs(mask))
     };
     Ok(Bound { coefficients: order.masks().iter().map(coefficient).collect(), outside: [left.outside, right.outside] })
 }

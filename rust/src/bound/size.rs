@@ -44,6 +44,49 @@ impl Size {
         f64::from_bits(steps.saturating_mul(1 << 52).saturating_add(digits).min(infinite))
     }
 
+    /// How far two numbers lie apart, exactly. None unless both are finite.
+    #[must_use]
+    pub fn between(x: f64, y: f64) -> Option<Size> {
+        if !x.is_finite() || !y.is_finite() {
+            return None;
+        }
+        let [one, other] = [x, y].map(|x| {
+            let (digits, mut size) = (Digits::of(x), Whole::default());
+            size.add_shifted(digits.count.into(), digits.shift + (UNIT - LEAST));
+            Size(size)
+        });
+        Some(if x.is_sign_negative() == y.is_sign_negative() { one.apart(other) } else { one.plus(&other) })
+    }
+
+    /// How far two sizes lie apart, exactly.
+    pub(super) fn apart(self, other: Size) -> Size {
+        let (near, mut far) = if self < other { (self, other) } else { (other, self) };
+        far.0.subtract(&near.0);
+        far
+    }
+
+    /// The exact sum of both.
+    #[must_use]
+    pub fn plus(&self, other: &Size) -> Size {
+        let mut sum = self.clone();
+        sum.0.add_scaled(&other.0, 1, 0);
+        sum
+    }
+
+    /// Adds the product with the size of a number, rounded up to a whole number of units.
+    pub(super) fn add_scaled(&mut self, other: &Size, number: Digits) {
+        if number.count != 0 && !other.is_zero() {
+            self.0.add_scaled(&other.0, number.count, number.shift as isize - LEAST as isize);
+        }
+    }
+
+    /// Adds the product of two sizes, rounded up to a whole number of units.
+    pub(super) fn add_distances(&mut self, x: &Size, y: &Size) {
+        if !x.is_zero() && !y.is_zero() {
+            self.0.add_scaled(&x.0.times(&y.0), 1, -(UNIT as isize));
+        }
+    }
+
     /// Adds the size of the product of two numbers.
     pub(super) fn add_product(&mut self, x: Digits, y: Digits) {
         if x.count != 0 && y.count != 0 {

@@ -1,4 +1,6 @@
 //! Whole numbers of any length: sums of the exact sizes of products, and their decimal digits rounded up.
+mod scaled;
+
 use std::cmp::Ordering;
 
 /// A whole number, the lowest word first; the highest word is not 0.
@@ -77,7 +79,14 @@ impl Whole {
     pub fn halve(&mut self, count: usize) -> bool {
         let (words, bits) = ((count / 64).min(self.0.len()), count % 64);
         let lost = self.0.drain(..words).any(|word| word != 0);
-        self.divide(1 << bits) != 0 || lost
+        let mut above = 0;
+        for word in self.0.iter_mut().rev() {
+            let both = u128::from(above) << 64 | u128::from(*word);
+            above = *word;
+            *word = (both >> bits) as u64;
+        }
+        self.trim();
+        lost || above & ((1 << bits) - 1) != 0
     }
 
     /// A 2^count-th of it, rounded up, at most what a word holds.
@@ -95,10 +104,12 @@ impl Whole {
     fn scaled_up(&self, unit: usize, power: i32) -> Whole {
         let mut all = self.clone();
         let mut lost = false;
-        for _ in 0..power.abs() {
+        // As many tens at a time as a word holds.
+        let tens = power.unsigned_abs();
+        for count in (0..tens / 19).map(|_| 19).chain([tens % 19]) {
             match power {
-                0.. => all.multiply(10),
-                _ => lost |= all.divide(10) != 0,
+                0.. => all.multiply(10u64.pow(count)),
+                _ => lost |= all.divide(10u64.pow(count)) != 0,
             }
         }
         lost |= all.halve(unit);
@@ -200,6 +211,8 @@ mod tests {
         assert_eq!(whole(3).decimal_up(1, 2), "1.50e0");
         assert_eq!(Whole::power_of_two(2100).decimal_up(3200, 2), "7.37e-332");
         assert_eq!(Whole::power_of_two(3200).decimal_up(2100, 2), "1.36e331");
+        assert_eq!(Whole::power_of_two(80_000).decimal_up(0, 5), "2.50989e24082");
+        assert_eq!(whole(1).decimal_up(40_000, 5), "6.31210e-12042");
         assert_eq!(whole(1).decimal_up(46, 0), "2e-14");
         assert_eq!(whole(1).decimal_up(46, 6), "1.421086e-14");
         assert_eq!(whole(9_999).decimal_up(0, 2), "1.00e4");
