@@ -4,7 +4,7 @@ mod exact;
 
 use exact::{Int, Sum, UNIT, fineness, sums};
 use thresholm::bound::{self, Bound, Guarantee, Size};
-use thresholm::{Error, Flavor, Multivector, Shape};
+use thresholm::{Error, Flavor, Multivector, Product, Shape};
 
 fn value(shape: Shape, numbers: &[f64]) -> Multivector {
     Multivector::new(shape, numbers).expect("a value")
@@ -85,6 +85,34 @@ fn unlike_values_have_the_bound_of_the_conformed() {
         assert_eq!(bound.coefficients(), same.coefficients());
         let pairs: u32 = bound.coefficients().iter().map(|coefficient| coefficient.pairs()).sum();
         assert_eq!(left.general_product(right).map(|product| product.pairs), Ok(pairs));
+    }
+}
+
+#[test]
+fn each_product_has_the_pairs_that_it_takes() {
+    let products = [
+        (Multivector::left_contraction as fn(&_, &_) -> _, bound::of_left_contraction as fn(&_, &_) -> _),
+        (Multivector::right_contraction, bound::of_right_contraction),
+        (Multivector::inner_product, bound::of_inner_product),
+        (Multivector::outer_product, bound::of_outer_product),
+        (Multivector::general_product, bound::of_general_product),
+    ];
+    let shapes =
+        [(3, Flavor::Vanilla), (2, Flavor::Projective), (4, Flavor::Cl(0, 1, 1))].map(|(d, f)| Shape::new(d, f));
+    let value = |shape: &Shape| value(*shape, &vec![1.0 / 3.0; 1 << shape.dims()]);
+    for (left, right) in shapes.iter().flat_map(|left| shapes.iter().map(move |right| (value(left), value(right)))) {
+        for (product, of) in products {
+            let (product, bound): (Result<Product, Error>, Result<Bound, Error>) =
+                (product(&left, &right), of(&left, &right));
+            let (product, bound) = (product.expect("it is done"), bound.expect("it is done"));
+            let pairs: u32 = bound.coefficients().iter().map(|coefficient| coefficient.pairs()).sum();
+            assert_eq!(pairs, product.pairs);
+            // Where nothing is grown every number is a third, and T a ninth of n: 0 where no pair contributes.
+            for coefficient in bound.coefficients().iter().filter(|_| left.shape() == right.shape()) {
+                let sizes = coefficient.sizes().expect("all are finite").to_f64();
+                assert!((9.0 * sizes - f64::from(coefficient.pairs())).abs() < 1e-9);
+            }
+        }
     }
 }
 

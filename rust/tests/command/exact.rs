@@ -25,11 +25,15 @@ impl Int {
         Int { below_zero: false, words }
     }
 
-    /// A finite number in units of 2^-unit.
+    /// A finite number in units of 2^-unit, which is so fine that it has a whole number of them.
     pub fn of_number(x: f64, unit: i32) -> Int {
         let (field, rest) = ((x.to_bits() >> 52) as i32 & 2047, x.to_bits() & ((1 << 52) - 1));
         let (m, e) = if field == 0 { (rest, -1074) } else { (rest + (1 << 52), field - 1075) };
-        Int { below_zero: x.is_sign_negative(), ..Int::of(m, (e + unit) as usize) }
+        let zeros = m.trailing_zeros();
+        match m {
+            0 => Int::default(),
+            _ => Int { below_zero: x < 0.0, ..Int::of(m >> zeros, (e + zeros as i32 + unit) as usize) },
+        }
     }
 
     fn word(&self, place: usize) -> i64 {
@@ -47,6 +51,13 @@ impl Int {
 
     pub fn is_zero(&self) -> bool {
         self.words.iter().all(|word| *word == 0)
+    }
+
+    fn trimmed(mut self) -> Int {
+        while self.words.last() == Some(&0) {
+            self.words.pop();
+        }
+        self
     }
 
     pub fn size(&self) -> Int {
@@ -68,20 +79,62 @@ impl Int {
             words.push(sum as u32);
             carry = sum >> 32;
         }
-        Int { below_zero: self.below_zero, words }
+        Int { below_zero: self.below_zero, words }.trimmed()
     }
 
     pub fn times(&self, other: &Int) -> Int {
-        let mut words = vec![0_u32; self.words.len() + other.words.len() + 1];
-        for (i, x) in self.words.iter().enumerate().filter(|(_, x)| **x != 0) {
+        let mut all = Int { below_zero: self.below_zero != other.below_zero, ..Int::default() };
+        all.grow_by_sizes(self, other);
+        all.trimmed()
+    }
+
+    /// Adds the product of two sizes to its own size.
+    fn grow_by_sizes(&mut self, one: &Int, other: &Int) {
+        let (few, many) = if one.words.len() < other.words.len() { (one, other) } else { (other, one) };
+        // The top word takes the carries of far more sums than there are.
+        self.words.resize(self.words.len().max(few.words.len() + many.words.len() + 1), 0);
+        for (i, x) in few.words.iter().enumerate().filter(|(_, x)| **x != 0) {
             let mut carry = 0;
-            for (j, y) in other.words.iter().chain(&[0]).enumerate() {
-                let sum = u64::from(*x) * u64::from(*y) + u64::from(words[i + j]) + carry;
-                words[i + j] = sum as u32;
+            for (word, y) in self.words[i..].iter_mut().zip(&many.words) {
+                let sum = u64::from(*x) * u64::from(*y) + u64::from(*word) + carry;
+                *word = sum as u32;
                 carry = sum >> 32;
             }
+            let mut at = i + many.words.len();
+            while carry > 0 {
+                let sum = u64::from(self.words[at]) + carry;
+                self.words[at] = sum as u32;
+                (carry, at) = (sum >> 32, at + 1);
+            }
         }
-        Int { below_zero: self.below_zero != other.below_zero, words }
+    }
+}
+
+/// A sum of signed products: how much goes up, and how much down.
+#[derive(Clone, Default)]
+pub struct Scale {
+    up: Int,
+    down: Int,
+}
+
+impl Scale {
+    /// Adds the product of two whole numbers and a metric.
+    pub fn add(&mut self, metric: i32, x: &Int, y: &Int) {
+        let sinks = (x.below_zero != y.below_zero) != (metric < 0);
+        match metric {
+            0 => {}
+            _ if sinks => self.down.grow_by_sizes(x, y),
+            _ => self.up.grow_by_sizes(x, y),
+        }
+    }
+
+    pub fn sum(&self) -> Int {
+        self.up.plus(&self.down.negated())
+    }
+
+    /// The sum of the sizes.
+    pub fn total(&self) -> Int {
+        self.up.plus(&self.down)
     }
 }
 
@@ -142,24 +195,26 @@ pub struct Sum {
     pub pairs: u64,
 }
 
-/// The sums of every coefficient, in the order of places.
+/// The sums of every coefficient of the general product, in the order of places.
 pub fn sums(shape: Shape, a: &[f64], b: &[f64]) -> Vec<Sum> {
+    sums_of(shape, a, b, |_, _| true)
+}
+
+/// The same of the pairs of masks that a product takes.
+pub fn sums_of(shape: Shape, a: &[f64], b: &[f64], takes: impl Fn(usize, usize) -> bool) -> Vec<Sum> {
     let masks = masks(shape.dims());
     let [a, b] = [a, b].map(|list| list.iter().map(|x| Int::of_number(*x, HALF)).collect::<Vec<_>>());
-    let mut sums = vec![Sum::default(); masks.len()];
+    let mut sums = vec![(Scale::default(), 0); masks.len()];
     for (i, x) in masks.iter().zip(&a) {
-        for (j, y) in masks.iter().zip(&b) {
+        for (j, y) in masks.iter().zip(&b).filter(|(j, _)| takes(*i, **j)) {
             let metric = metric(shape, *i, *j);
-            let sum = &mut sums[i ^ j];
-            sum.pairs += u64::from(metric != 0);
-            if metric != 0 && !x.is_zero() && !y.is_zero() {
-                let product = x.times(y);
-                sum.total = sum.total.plus(&product.size());
-                sum.exact = sum.exact.plus(&if metric < 0 { product.negated() } else { product });
-            }
+            let (scale, pairs) = &mut sums[i ^ j];
+            *pairs += u64::from(metric != 0);
+            scale.add(metric, x, y);
         }
     }
-    masks.iter().map(|mask| sums[*mask].clone()).collect()
+    let in_order = masks.iter().map(|mask| &sums[*mask]);
+    in_order.map(|(scale, pairs)| Sum { exact: scale.sum(), total: scale.total(), pairs: *pairs }).collect()
 }
 
 impl Sum {
