@@ -128,8 +128,7 @@ fn without_names_values_go_by_their_numbers() {
     let none = Sheet::new([], []).unwrap();
     let over = |text: &str, sheet: &Sheet| Listing::over_sheet(text, sheet).map_err(words);
     let sheet = rig().into_sheet();
-    let no_names =
-        "1:7: a rig sheet holds no names, so a value goes by its number: 'slide' (names stand in the rig's text)";
+    let no_names = "1:7: a rig sheet holds no names, so a value goes by its number: 'slide' (names stand in the rig's text, or beside the sheet)";
     assert_eq!(over("right slide", &sheet), Err(no_names.to_string()));
     assert_eq!(over("right 8", &sheet), Err("1:7: there is no value 8: they are numbered from 0 to 7".to_string()));
     assert_eq!(over("right 0", &none), Err("1:7: there is no value 0: the rig has none".to_string()));

@@ -53,7 +53,7 @@ impl Known<'_> {
             _ if is_number(first.text) => return too_many(rest),
             Known::Count(_) => {
                 return name.fault(format!(
-                    "a rig sheet holds no names, so a value goes by its number: {} (names stand in the rig's text)",
+                    "a rig sheet holds no names, so a value goes by its number: {} (names stand in the rig's text, or beside the sheet)",
                     quoted(name.text)
                 ));
             }

@@ -31,15 +31,25 @@ pub fn place_of(names: &[String], text: &str) -> Result<usize, String> {
     if let Some(place) = names.iter().position(|name| name == text) {
         return Ok(place);
     }
-    let same = |name: &&String| sorted(name) == sorted(text);
+    let plain = in_plain_digits(text);
+    let same = |name: &&String| sorted(name) == sorted(&plain);
     Err(match names.iter().find(same) {
-        Some(name) if is_even_change(name, text) => format!("here this blade is written {name}"),
+        Some(name) if is_even_change(name, &plain) => format!("here this blade is written {name}"),
         Some(name) => {
             format!("here this blade is written {name}, and its number has the other sign")
         }
         None if names.len() <= 8 => format!("the blades of this value are {}", names.join(" ")),
         None => format!("the blades of this value go from 1 to {}", names[names.len() - 1]),
     })
+}
+
+/// The name of a blade in small letters and digits on the line, as it is typed: `e₁₂` is `e12`.
+fn in_plain_digits(name: &str) -> String {
+    let digit = |c: char| match c {
+        '₀'..='₉' => char::from_digit(u32::from(c) - u32::from('₀'), 10).unwrap_or(c),
+        _ => c.to_ascii_lowercase(),
+    };
+    name.chars().map(digit).collect()
 }
 
 fn sorted(name: &str) -> Vec<char> {
@@ -86,6 +96,8 @@ mod tests {
             place_of(&three, "e13"),
             Err("here this blade is written e31, and its number has the other sign".to_string())
         );
+        assert_eq!(place_of(&three, "e₃₁"), Err("here this blade is written e31".to_string()));
+        assert_eq!(place_of(&three, "E12"), Err("here this blade is written e12".to_string()));
         assert_eq!(place_of(&three, "e231"), Err("here this blade is written e123".to_string()));
         assert_eq!(place_of(&three, "e4"), Err("the blades of this value are 1 e1 e2 e3 e12 e31 e23 e123".to_string()));
         let four = blade_names(Shape::new(4, Flavor::Projective));

@@ -36,6 +36,7 @@
 mod blades;
 pub(crate) mod fault;
 mod header;
+mod mistakes;
 mod numbers;
 mod read;
 pub(crate) mod text;

@@ -27,21 +27,32 @@ fn exact_bits(digits: &str) -> Option<u64> {
 }
 
 /// What the writer may have meant, in brackets.
-fn hint(text: &str) -> &'static str {
-    if text.ends_with([',', ';']) {
-        " (put only spaces between numbers)"
-    } else if text.contains(',') {
-        " (use a point)"
-    } else if text.starts_with(['−', '–', '¯']) {
-        " (use the sign -)"
-    } else if is_blade_like(text) {
-        " (a blade is written with its number: e12 = 0.5)"
-    } else {
-        ""
-    }
+fn hint(text: &str) -> String {
+    let with_point = text
+        .split_once(',')
+        .map(|(whole, part)| part.starts_with(|c: char| c.is_ascii_digit()) && is_number(&format!("{whole}.{part}")));
+    let after = text.trim_start_matches(|c: char| c.is_ascii_digit() || "+-.".contains(c));
+    let hint = match with_point {
+        Some(true) => "use a point",
+        Some(false) if text.contains('.') && is_number(&text.replace(',', "")) => "write it without ','",
+        Some(false) => "put only spaces between numbers",
+        None if text.contains(';') => "put only spaces between numbers",
+        None if text.starts_with(['−', '–', '¯']) => "use the sign -",
+        None if is_blade_like(text) => "a blade is written with its number: e12 = 0.5",
+        None if is_number(&text[..text.len() - after.len()]) => {
+            return format!(" (the number ends before {})", quoted(after));
+        }
+        None => return String::new(),
+    };
+    format!(" ({hint})")
 }
 
-fn is_blade_like(text: &str) -> bool {
+fn is_number(text: &str) -> bool {
+    text.parse::<f64>().is_ok()
+}
+
+/// Whether a word may be meant for the name of a blade.
+pub fn is_blade_like(text: &str) -> bool {
     text.strip_prefix('e').is_some_and(|digits| !digits.is_empty() && digits.bytes().all(|b| b.is_ascii_digit()))
 }
 
@@ -90,10 +101,19 @@ mod tests {
     }
 
     #[test]
-    fn what_is_no_number_is_told() {
+    fn what_is_no_number_is_explained() {
         for (text, says) in [
             ("1,5", "this is no number: '1,5' (use a point)"),
+            ("-1,5e3", "this is no number: '-1,5e3' (use a point)"),
             ("1,", "this is no number: '1,' (put only spaces between numbers)"),
+            ("1;", "this is no number: '1;' (put only spaces between numbers)"),
+            ("1,e20", "this is no number: '1,e20' (put only spaces between numbers)"),
+            ("1;2", "this is no number: '1;2' (put only spaces between numbers)"),
+            ("1,200.5", "this is no number: '1,200.5' (write it without ',')"),
+            ("1.5mm", "this is no number: '1.5mm' (the number ends before 'mm')"),
+            ("1/2", "this is no number: '1/2' (the number ends before '/2')"),
+            ("é", "this is no number: 'é'"),
+            ("1.2.3", "this is no number: '1.2.3'"),
             ("−1", "this is no number: '−1' (use the sign -)"),
             ("e12", "this is no number: 'e12' (a blade is written with its number: e12 = 0.5)"),
             ("x", "this is no number: 'x'"),

@@ -1,9 +1,9 @@
 //! A rig read from its text: for each value a line `NAME: DIMS FLAVOR`, and after it its numbers.
 use super::blades::{blade_names, place_of};
 use super::fault::Fault;
-use super::header::shape_of;
-use super::numbers::pattern_of;
-use super::text::{Piece, lines};
+use super::header::started;
+use super::numbers::{is_blade_like, pattern_of};
+use super::text::{Piece, commented_lines};
 use super::words::{counted, quoted};
 use crate::shape::Shape;
 use crate::sheet::{MAX_PATTERNS, MAX_SHAPES};
@@ -28,10 +28,12 @@ struct Draft<'t> {
 pub fn read(text: &str) -> Result<Read, Fault> {
     let mut read = Read::default();
     let mut draft: Option<Draft> = None;
-    for line in lines(text) {
-        if let Some((name, rest)) = line.parted(':') {
+    for (line, comment) in commented_lines(text) {
+        let started =
+            started(line, comment).map_err(|fault| draft.as_ref().and_then(Draft::fault_so_far).unwrap_or(fault))?;
+        if let Some((name, shape)) = started {
             draft.take().map_or(Ok(()), |draft| read.finish(draft))?;
-            draft = Some(read.start(name.trimmed(), rest)?);
+            draft = Some(read.start(name, shape)?);
             continue;
         }
         let words = line.words();
@@ -50,9 +52,8 @@ pub fn read(text: &str) -> Result<Read, Fault> {
 
 impl Read {
     /// A value from its first line; with it the rig is within the limits of a sheet.
-    fn start<'t>(&self, name: Piece<'t>, rest: Piece<'t>) -> Result<Draft<'t>, Fault> {
-        let shape = shape_of(rest)?;
-        let numbers = self.patterns.len() + shape.blade_count().or_else(|error| rest.fault(error.to_string()))?;
+    fn start<'t>(&self, name: Piece<'t>, shape: Shape) -> Result<Draft<'t>, Fault> {
+        let numbers = self.patterns.len() + shape.blade_count().or_else(|error| name.fault(error.to_string()))?;
         if self.shapes.len() == MAX_SHAPES {
             return name.fault(format!("a rig sheet has at most {MAX_SHAPES} values; this is one more"));
         }
@@ -63,19 +64,31 @@ impl Read {
         Ok(Draft { name, shape, words: Vec::new() })
     }
 
-    /// A value with its numbers, which are all of one form.
+    /// A value with its numbers.
     fn finish(&mut self, draft: Draft) -> Result<(), Fault> {
-        let patterns = match draft.words.iter().any(|word| word.text == "=") {
-            _ if draft.words.is_empty() => {
-                draft.name.fault("this value has no numbers (a value of zeros is written 1 = 0)")
-            }
-            true => by_blades(&draft),
-            false => in_order(&draft),
-        }?;
+        let patterns = draft.patterns()?;
         self.names.push(draft.name.text.to_string());
         self.shapes.push(draft.shape);
         self.patterns.extend(patterns);
         Ok(())
+    }
+}
+
+impl Draft<'_> {
+    /// The patterns of its numbers, which are all of one form.
+    fn patterns(&self) -> Result<Vec<u64>, Fault> {
+        match self.words.iter().any(|word| word.text == "=") {
+            _ if self.words.is_empty() => {
+                self.name.fault("this value has no numbers (a value of zeros is written 1 = 0)")
+            }
+            true => by_blades(self),
+            false => in_order(self),
+        }
+    }
+
+    /// A fault in the words that are here so far. That some are missing is none: a line with a fault follows, which may be meant to hold them.
+    fn fault_so_far(&self) -> Option<Fault> {
+        self.patterns().err().filter(|fault| fault.line() > self.name.line)
     }
 }
 
@@ -104,22 +117,37 @@ fn by_blades(draft: &Draft) -> Result<Vec<u64>, Fault> {
     let mut patterns = vec![None; names.len()];
     let mut words = draft.words.iter();
     while let Some(blade) = words.next() {
-        if blade.text == "=" {
-            return blade.fault("before '=' stands the name of a blade, such as e12");
-        }
         let place = match place_of(&names, blade.text) {
             Ok(place) => place,
-            Err(why) => {
-                return blade.fault(format!("there is no blade {}: {why}", quoted(blade.text)));
-            }
+            Err(why) => return no_blade(blade, &why),
         };
         let sign = words.next().filter(|sign| sign.text == "=");
         let Some(number) = sign.and_then(|_| words.next()) else {
             return blade.fault(format!("after the blade {} come '=' and its number", quoted(blade.text)));
         };
+        if number.text == "=" || is_blade_like(number.text) {
+            return number.fault(format!(
+                "after '{} =' comes its number, and here is {}",
+                blade.text,
+                quoted(number.text)
+            ));
+        }
         if patterns[place].replace(pattern(number)?).is_some() {
             return blade.fault(format!("the blade {} is here for the second time", quoted(blade.text)));
         }
     }
     Ok(patterns.into_iter().map(Option::unwrap_or_default).collect())
+}
+
+/// What is wrong with a word where a blade is to stand.
+fn no_blade<T>(word: &Piece, why: &str) -> Result<T, Fault> {
+    match pattern_of(word.text) {
+        _ if word.text == "=" => word.fault("before '=' stands the name of a blade, such as e12"),
+        _ if [",", ";"].contains(&word.text) => word.fault("put only spaces between numbers"),
+        Ok(_) => word.fault(format!(
+            "this number has no blade: {} (where one is given by its blade, as e12 = 0.5, all are)",
+            quoted(word.text)
+        )),
+        Err(_) => word.fault(format!("there is no blade {}: {why}", quoted(word.text))),
+    }
 }

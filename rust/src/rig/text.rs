@@ -27,6 +27,13 @@ impl<'t> Piece<'t> {
         Piece { text: rest.text.trim_end(), ..rest }
     }
 
+    /// What stands before one of its words, and what stands from there on.
+    pub fn split_at(&self, word: &Piece) -> (Piece<'t>, Piece<'t>) {
+        let characters = word.column.saturating_sub(self.column);
+        let at = self.text.char_indices().nth(characters).map_or(self.text.len(), |(at, _)| at);
+        (Piece { text: &self.text[..at], ..*self }, self.from(at))
+    }
+
     /// What stands before the first of some characters and what stands after it, if it is there.
     pub fn parted(&self, at: char) -> Option<(Piece<'t>, Piece<'t>)> {
         let (before, _) = self.text.split_once(at)?;
@@ -72,10 +79,17 @@ impl<'t> Piece<'t> {
 
 /// The lines of a text, each without its comment.
 pub fn lines(text: &str) -> impl Iterator<Item = Piece<'_>> {
-    text.split('\n').enumerate().map(|(number, line)| Piece {
-        text: line.split('#').next().unwrap_or(""),
-        line: number + 1,
-        column: 1,
+    commented_lines(text).map(|(line, _)| line)
+}
+
+/// The lines of a text, each apart from its comment, which starts with `#`.
+pub fn commented_lines(text: &str) -> impl Iterator<Item = (Piece<'_>, Option<Piece<'_>>)> {
+    text.split('\n').enumerate().map(|(number, text)| {
+        let line = Piece { text, line: number + 1, column: 1 };
+        match text.find('#') {
+            Some(at) => (Piece { text: &text[..at], ..line }, Some(line.from(at))),
+            None => (line, None),
+        }
     })
 }
 
@@ -124,10 +138,21 @@ mod tests {
         assert_eq!((last.text, none.text), ("1", ""));
         let parts: Vec<_> = flavor.between(&[' ', 'l']).iter().map(|part| (part.text, part.column)).collect();
         assert_eq!(parts, [("C", 15), ("3", 18), ("1", 20)]);
+        let (before, from) = line.split_at(&dims);
+        assert_eq!((before.text, from.text, from.column), (" lé ft :  ", "3   Cl 3 1 ", 11));
     }
 
     #[test]
-    fn bytes_that_are_no_text_are_told() {
+    fn a_comment_has_its_column() {
+        let parts =
+            |text| commented_lines(text).next().map(|(line, comment)| (line.text, comment.map(|c| (c.text, c.column))));
+        assert_eq!(parts("é 1 # a # b"), Some(("é 1 ", Some(("# a # b", 5)))));
+        assert_eq!(parts("#"), Some(("", Some(("#", 1)))));
+        assert_eq!(parts("1"), Some(("1", None)));
+    }
+
+    #[test]
+    fn bytes_that_are_no_text_are_a_fault() {
         assert_eq!(decoded("\u{feff}a: 1".as_bytes()), Ok("a: 1"));
         let fault = decoded(b"one\n\xC3\xA9t\xE9\n").expect_err("no text");
         assert_eq!(fault.to_string(), "2:3: the byte 0xE9 is no part of a text (save the file as UTF-8)");
