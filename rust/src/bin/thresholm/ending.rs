@@ -1,5 +1,7 @@
-//! How a replay ended, in words.
-use crate::recorded::{Recorded, Values};
+//! How a replay ended, in words and as JSON.
+use crate::json::Json;
+use crate::recorded::Recorded;
+use crate::rigs::Values;
 use thresholm::{Error, Log, Multivector, Replay, Sheet, Step};
 
 /// What is said where a pose equals a value that has other numbers.
@@ -34,16 +36,41 @@ impl Ending {
         match *self {
             Ending::Through => Vec::new(),
             Ending::Halted { index, value } => {
-                let called = values.called(value.into());
-                let same = values.sheet().value(value.into()).is_ok_and(|value| same_numbers(&replay.pose, &value));
-                let halted = format!("halted at {}: the pose equals {called}", recorded.step(index));
-                [halted].into_iter().chain((!same).then(|| UNLIKE.to_string())).collect()
+                let halted =
+                    format!("halted at {}: the pose equals {}", recorded.step(index), values.called(value.into()));
+                let unlike = self.same(replay, values) == Some(false);
+                [halted].into_iter().chain(unlike.then(|| UNLIKE.to_string())).collect()
             }
             Ending::Stopped { index, error } => vec![
                 format!("stopped at {}, refused with {}: {error}", recorded.step(index), error.number()),
                 "the pose is the one from before that step".to_string(),
             ],
         }
+    }
+
+    /// The same as fields, null where they do not belong to it. Steps are counted from 1.
+    pub fn form(&self, replay: &Replay, recorded: &Recorded, values: &Values) -> Json {
+        let (how, index, value, refused) = match *self {
+            Ending::Through => ("through", None, None, None),
+            Ending::Halted { index, value } => ("halted", Some(index), Some(usize::from(value)), None),
+            Ending::Stopped { index, error } => ("stopped", Some(index), None, Some(error)),
+        };
+        let words = self.words(replay, recorded, values);
+        Json::Fields(vec![
+            ("how", how.into()),
+            ("step", index.map(|index| index + 1).into()),
+            ("value", value.into()),
+            ("same", self.same(replay, values).into()),
+            ("refused", refused.map(|error| usize::from(error.number())).into()),
+            ("why", refused.map(|error| error.to_string()).into()),
+            ("text", (!words.is_empty()).then(|| words.join("; ")).into()),
+        ])
+    }
+
+    /// Whether the pose has the numbers of the value that halted it.
+    fn same(&self, replay: &Replay, values: &Values) -> Option<bool> {
+        let Ending::Halted { value, .. } = *self else { return None };
+        Some(values.sheet().value(value.into()).is_ok_and(|value| same_numbers(&replay.pose, &value)))
     }
 }
 

@@ -1,45 +1,57 @@
-//! Values of a rig sheet multiplied in order, step by step.
-use crate::files::sheet_of;
-use crate::said;
-use crate::step::{Factor, multiplied};
-use crate::stop::Stop;
-use crate::words::short;
+//! Values of a rig multiplied in order: the whole product, and each step of it.
+use crate::answer::Answer;
+use crate::arguments::Product;
+use crate::forms::{opened_form, step_form, value_fields, within};
+use crate::json::{self, Json};
+use crate::rigs::{Values, values_of};
+use crate::said::of_step;
+use crate::step::{Factor, Refused, Whole};
+use crate::stop::{Stop, shown_path};
+use crate::whole::{of_whole, opened};
 use std::path::Path;
-use thresholm::Sheet;
 
-pub fn product(rig: &Path, indices: &[String]) -> Result<String, Stop> {
-    let sheet = sheet_of(rig)?;
-    let factors: Vec<Factor> = indices.iter().map(|index| factor(rig, &sheet, index)).collect::<Result<_, _>>()?;
-    let mut lines = Vec::new();
-    let mut exact = Vec::new();
-    let mut rest = factors.into_iter();
-    let mut left = rest.next();
-    for (number, right) in (1..).zip(rest) {
-        let Some(factor) = left.take() else { break };
-        let title = format!("step {number}: {} times {}", factor.called, right.called);
-        let step = multiplied(&factor.value, &right.value)
-            .map_err(|error| Stop::in_file(rig, format!("{title}: refused with {}: {error}", error.number())))?;
-        lines.push(title);
-        lines.extend(said::of_step([&factor, &right], &step));
-        exact.push(step.bound.is_exact());
-        left = Some(Factor { value: step.product.value, called: format!("the result of step {number}") });
-    }
-    lines.extend(said::of_all(&exact));
-    lines.push(String::new());
-    Ok(lines.join("\n"))
+pub fn product(task: &Product) -> Result<Answer, Stop> {
+    let rig = &task.rig;
+    let values = values_of(rig)?;
+    let index = |word: &String| values.index(word).map_err(|why| Stop::in_file(rig, why));
+    let indices: Vec<usize> = task.factors.iter().map(index).collect::<Result<_, _>>()?;
+    let factors = indices.iter().map(|index| factor(rig, &values, *index)).collect::<Result<Vec<_>, _>>()?;
+    let refused = |Refused { title, error }| format!("{title}: refused with {}: {error}", error.number());
+    let whole = Whole::of(factors).map_err(|step| Stop::in_file(rig, refused(step)))?;
+    Ok(if task.json { in_json(rig, &values, &indices, &whole) } else { in_words(&values, &whole, task.steps) }.into())
 }
 
-/// The value whose number the digits are.
-fn factor(rig: &Path, sheet: &Sheet, digits: &str) -> Result<Factor, Stop> {
-    let found = digits.parse().ok().and_then(|index| Some((index, sheet.value(index).ok()?)));
-    match found {
-        Some((index, value)) => Ok(Factor { value, called: format!("value {index}") }),
-        None if sheet.is_empty() => {
-            Err(Stop::in_file(rig, format!("there is no value {}: the sheet has none", short(digits))))
-        }
-        None => Err(Stop::in_file(
-            rig,
-            format!("there is no value {}: they are numbered from 0 to {}", short(digits), sheet.len() - 1),
-        )),
+fn factor(rig: &Path, values: &Values, index: usize) -> Result<Factor, Stop> {
+    let value = values.sheet().value(index).map_err(|error| Stop::by_library(rig, error))?;
+    Ok(Factor { value, called: values.called(index) })
+}
+
+/// The whole product, with each step before it where they are asked for. One step is the whole.
+fn in_words(values: &Values, whole: &Whole, steps: bool) -> String {
+    let mut lines: Vec<String> = values.note().iter().map(|note| format!("note: {note}")).collect();
+    if steps || whole.steps.len() == 1 {
+        lines.extend(whole.steps.iter().flat_map(of_step));
     }
+    if whole.steps.len() > 1 {
+        lines.extend(of_whole(whole));
+    }
+    lines.push(String::new());
+    lines.join("\n")
+}
+
+fn in_json(rig: &Path, values: &Values, indices: &[usize], whole: &Whole) -> String {
+    let factor = |index: &usize| Json::Fields(vec![("value", (*index).into()), ("name", values.name(*index).into())]);
+    let mut fields = vec![
+        ("rig", shown_path(rig).into()),
+        ("note", values.note().into()),
+        ("factors", indices.iter().map(factor).collect::<Vec<_>>().into()),
+    ];
+    fields.extend(value_fields(whole.chain.value()));
+    fields.extend([
+        ("within", within(whole)),
+        ("exact", whole.chain.is_exact().into()),
+        ("opened", opened(whole).map(opened_form).into()),
+        ("steps", whole.steps.iter().map(step_form).collect::<Vec<_>>().into()),
+    ]);
+    json::answer("product", fields)
 }

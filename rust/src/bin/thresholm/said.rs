@@ -5,39 +5,39 @@ use thresholm::bound::{Bound, Coefficient, Guarantee, Outside};
 use thresholm::rig::{blade_names, shape_words, spelled};
 use thresholm::{Flavor, Multivector, Shape};
 
-pub fn of_step(factors: [&Factor; 2], step: &Step) -> Vec<String> {
+pub fn of_step(step: &Step) -> Vec<String> {
     let value = &step.product.value;
-    let mut lines: Vec<String> = notes(factors, step).iter().map(|note| format!("  {note}")).collect();
+    let mut lines = vec![step.title()];
+    lines.extend(notes(step).iter().map(|note| format!("  {note}")));
     let pairs = counted(step.product.pairs as usize, "contributing pair");
     lines.push(format!("  {pairs}; the result has {}:", shape_words(value.shape())));
     lines.push(format!("  {value}"));
     lines.extend(listed(value, &step.bound));
-    lines.push(format!("  guaranteed: {}", summed(&step.bound)));
+    let exact = step.bound.coefficients().iter().filter(|coefficient| *coefficient.guarantee() == Guarantee::Exact);
+    let largest = step.bound.largest().map(|limit| format!("within {limit} of the exact sum"));
+    lines.push(format!("  guaranteed: {}", summed(step.bound.coefficients().len(), exact.count(), largest)));
     lines
 }
 
-/// What follows for the whole product, where it has more than one step, from whether each is exact.
-pub fn of_all(exact: &[bool]) -> Option<String> {
-    let (_, before) = exact.split_last()?;
-    Some(match exact.iter().all(|exact| *exact) {
-        _ if before.is_empty() => return None,
-        true => "whole product: exact, since every step is".to_string(),
-        false if before.iter().all(|exact| *exact) => format!("whole product: step {} says how near, since every step before it is exact", exact.len()),
-        false => "whole product: each step's bound is about that step alone, with the result of the step before it as it stands".to_string(),
-    })
+/// What there is to say of a step; where a coefficient has no bound, also why.
+pub fn notes(step: &Step) -> Vec<String> {
+    let mut notes = changes(step);
+    if step.bound.coefficients().iter().any(|coefficient| *coefficient.guarantee() == Guarantee::Open) {
+        let outside = step.factors.iter().zip(step.shapes).zip(step.bound.outside());
+        let why = |((factor, shape), outside): ((&Factor, _), Option<_>)| Some(unbounded(factor, shape, outside?));
+        notes.extend(outside.filter_map(why).map(|why| format!("no bound is guaranteed, since {why}")));
+    }
+    // A value times itself has the same to say twice.
+    notes.dedup();
+    notes
 }
 
-/// What there is to say of two factors; where a coefficient has no bound, also why.
-fn notes(factors: [&Factor; 2], step: &Step) -> Vec<String> {
-    let both = || factors.into_iter().zip(step.shapes);
+/// How the factors of a step are changed before they are multiplied.
+pub fn changes(step: &Step) -> Vec<String> {
+    let both = || step.factors.iter().zip(step.shapes);
     let result = step.product.value.flavor();
     let mut notes: Vec<String> = both().filter_map(|(factor, shape)| brought(factor, shape, result)).collect();
     notes.extend(both().filter_map(|(factor, shape)| sign_turned(factor, shape)));
-    if step.bound.coefficients().iter().any(|coefficient| *coefficient.guarantee() == Guarantee::Open) {
-        let outside = both().zip(step.bound.outside());
-        notes.extend(outside.filter_map(|((factor, shape), outside)| Some(unbounded(&factor.called, shape, outside?))));
-    }
-    // A value times itself has the same to say twice.
     notes.dedup();
     notes
 }
@@ -66,30 +66,18 @@ fn sign_turned(factor: &Factor, conformed: Shape) -> Option<String> {
     })
 }
 
-/// Why no bound is guaranteed, where that lies in this factor.
-fn unbounded(called: &str, conformed: Shape, outside: Outside) -> String {
-    let (name, number) = (&blade_names(conformed)[outside.place], spelled(outside.number));
-    format!("no bound is guaranteed, since {called} has {number} at {name}: sizes must be 0 or from 2^-400 to 2^400")
+/// Why no bound is guaranteed: a number of a factor of that shape.
+pub fn unbounded(factor: &Factor, shape: Shape, outside: Outside) -> String {
+    let (name, number) = (&blade_names(shape)[outside.place], spelled(outside.number));
+    format!("{} has {number} at {name}: sizes must be 0 or from 2^-400 to 2^400", factor.called)
 }
 
-/// A line for each coefficient: its blade, its number and how near to exact it is. Zeros whose every pair has a zero in it share one line.
+/// A line for each coefficient of a step. Zeros whose every pair has a zero in it share one line.
 fn listed(value: &Multivector, bound: &Bound) -> Vec<String> {
-    let names = blade_names(value.shape());
-    let all = names.iter().zip(value.numbers()).zip(bound.coefficients());
-    let (empty, full): (Vec<_>, Vec<_>) = all.partition(|((_, number), coefficient)| {
-        **number == 0.0 && coefficient.sizes().is_some_and(|sizes| sizes.is_zero())
-    });
-    let mut rows: Vec<[String; 3]> = full
-        .iter()
-        .map(|((name, number), coefficient)| [name.to_string(), spelled(**number), near(coefficient)])
-        .collect();
-    if let Some((_, coefficient)) = empty.first() {
-        let who = if full.is_empty() { "all" } else { "the other" };
-        rows.push([format!("{who} {}", empty.len()), "0".to_string(), near(coefficient)]);
-    }
-    let width = |column: usize| rows.iter().map(|row| row[column].chars().count()).max().unwrap_or(0);
-    let (first, second) = (width(0), width(1));
-    rows.iter().map(|[name, number, near]| format!("    {name:first$}  {number:second$}  {near}")).collect()
+    let coefficients = || bound.coefficients().iter();
+    let near: Vec<String> = coefficients().map(near).collect();
+    let empty: Vec<bool> = coefficients().map(|one| one.sizes().is_some_and(|sizes| sizes.is_zero())).collect();
+    table(value, &near, &empty)
 }
 
 fn near(coefficient: &Coefficient) -> String {
@@ -100,11 +88,27 @@ fn near(coefficient: &Coefficient) -> String {
     }
 }
 
-/// How many coefficients are exact, and what is guaranteed of the others: they all have a bound, or none has one.
-fn summed(bound: &Bound) -> String {
-    let all = bound.coefficients().len();
-    let exact = bound.coefficients().iter().filter(|coefficient| *coefficient.guarantee() == Guarantee::Exact).count();
-    let largest = bound.largest().map(|limit| format!("within {limit} of the exact sum"));
+/// A line for each coefficient: its blade, its number and how near to exact it is. Zeros that may share one line are alike near; -0 has its own.
+pub fn table(value: &Multivector, near: &[String], may_share: &[bool]) -> Vec<String> {
+    let names = blade_names(value.shape());
+    let all = names.iter().zip(value.numbers()).zip(near).zip(may_share);
+    let (shared, full): (Vec<_>, Vec<_>) =
+        all.partition(|(((_, number), _), shares)| number.to_bits() == 0 && **shares);
+    let row = |(((name, number), near), _): &(((&String, &f64), &String), &bool)| {
+        [name.to_string(), spelled(**number), near.to_string()]
+    };
+    let mut rows: Vec<[String; 3]> = full.iter().map(row).collect();
+    if let Some(((_, near), _)) = shared.first() {
+        let who = if full.is_empty() { "all" } else { "the other" };
+        rows.push([format!("{who} {}", shared.len()), "0".to_string(), near.to_string()]);
+    }
+    let width = |column: usize| rows.iter().map(|row| row[column].chars().count()).max().unwrap_or(0);
+    let (first, second) = (width(0), width(1));
+    rows.iter().map(|[name, number, near]| format!("    {name:first$}  {number:second$}  {near}")).collect()
+}
+
+/// How many of all coefficients are exact, and what is guaranteed of the others: they all have a bound, or none has one.
+pub fn summed(all: usize, exact: usize, largest: Option<String>) -> String {
     match (exact, largest) {
         _ if exact == all => "all exact".to_string(),
         (0, Some(largest)) => format!("all {largest}"),
