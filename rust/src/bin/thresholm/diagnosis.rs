@@ -6,7 +6,12 @@ const SHAPE_BYTES: usize = 5;
 const NUMBER_BYTES: usize = 8;
 
 /// The most bytes that a sheet can have.
-pub const MOST_BYTES: usize = 2 + SHAPE_BYTES * MAX_SHAPES + 4 + NUMBER_BYTES * MAX_PATTERNS;
+pub const MOST_BYTES: usize = byte_of_coefficient(MAX_SHAPES, MAX_PATTERNS);
+
+/// The byte at which a coefficient starts, in a sheet of so many values. Both are counted from 0.
+pub const fn byte_of_coefficient(values: usize, index: usize) -> usize {
+    2 + SHAPE_BYTES * values + 4 + NUMBER_BYTES * index
+}
 
 /// What is the first that cannot stand, with the reason.
 #[derive(Debug, PartialEq, Eq)]
@@ -114,14 +119,14 @@ mod tests {
     /// One Vanilla 1.0, from document 01's table.
     const ONE: [u8; 19] = [1, 0, 0, 0, 0, 0, 0, 1, 0, 0, 0, 0, 0, 0, 0, 0, 0, 0xF0, 0x3F];
 
-    fn told(bytes: &[u8]) -> String {
+    fn said(bytes: &[u8]) -> String {
         first_wrong(bytes).expect("a byte is wrong").to_string()
     }
 
     fn changed(at: usize, byte: u8) -> String {
         let mut bytes = ONE;
         bytes[at] = byte;
-        told(&bytes)
+        said(&bytes)
     }
 
     #[test]
@@ -131,7 +136,7 @@ mod tests {
     }
 
     #[test]
-    fn each_field_is_told() {
+    fn each_field_is_explained() {
         assert_eq!(
             changed(1, 1),
             "the number that starts at byte 0: the count of values is 257; a sheet has at most 64"
@@ -150,12 +155,12 @@ mod tests {
     }
 
     #[test]
-    fn ends_are_told() {
-        assert_eq!(told(&[]), "byte 0: the file ends here, before the end of the count of values");
-        assert_eq!(told(&ONE[..4]), "byte 4: the file ends here, before the end of p of value 0");
-        assert_eq!(told(&ONE[..9]), "byte 9: the file ends here, before the end of the count of coefficients");
-        assert_eq!(told(&ONE[..18]), "byte 18: the file ends here, in coefficient 0 of 1; the sheet has 19 bytes");
+    fn ends_are_explained() {
+        assert_eq!(said(&[]), "byte 0: the file ends here, before the end of the count of values");
+        assert_eq!(said(&ONE[..4]), "byte 4: the file ends here, before the end of p of value 0");
+        assert_eq!(said(&ONE[..9]), "byte 9: the file ends here, before the end of the count of coefficients");
+        assert_eq!(said(&ONE[..18]), "byte 18: the file ends here, in coefficient 0 of 1; the sheet has 19 bytes");
         let longer = [&ONE[..], &[0, 0]].concat();
-        assert_eq!(told(&longer), "byte 19: the sheet has 19 bytes; nothing may follow it");
+        assert_eq!(said(&longer), "byte 19: the sheet has 19 bytes; nothing may follow it");
     }
 }

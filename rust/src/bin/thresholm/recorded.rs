@@ -1,17 +1,11 @@
 //! A rig and a log over it, each read as bytes or as text.
 use crate::diagnosis::Wrong;
-use crate::files::{sheet_in, text_of};
-use crate::stop::{Stop, on_one_line, shown_path};
+use crate::files::text_of;
+use crate::rigs::{Values, values_in, values_of};
+use crate::stop::{Stop, shown_path};
 use std::path::Path;
 use thresholm::log::Listing;
-use thresholm::rig::Rig;
-use thresholm::{Log, MAX_STEPS, Sheet, Step};
-
-/// A sheet, with the names of its values where it was read from a text.
-pub enum Values {
-    Sheet(Sheet),
-    Named(Rig),
-}
+use thresholm::{Log, MAX_STEPS, Step};
 
 /// A log, and the lines of its steps where it was read from a text.
 pub struct Recorded {
@@ -21,7 +15,7 @@ pub struct Recorded {
 
 /// A rig and a log over it. Where the log's file is a rig, and the rig's is none, it is said which is `the_rig`: `the rig comes first`.
 pub fn rig_and_log(rig: &Path, log: &Path, the_rig: &str) -> Result<(Values, Recorded), Stop> {
-    let values = values_of(rig).map_err(|stop| match values_of(log) {
+    let values = start_of(rig).map_err(|stop| match start_of(log) {
         Ok(_) => Stop::Refused(format!("{} ({the_rig}, and {} is one)", stop.message(), shown_path(log))),
         Err(_) => stop,
     })?;
@@ -29,39 +23,13 @@ pub fn rig_and_log(rig: &Path, log: &Path, the_rig: &str) -> Result<(Values, Rec
     Ok((values, recorded))
 }
 
-/// A file's rig: a sheet, or the text of one.
-fn values_of(path: &Path) -> Result<Values, Stop> {
-    let values = values_in(path, &text_of(path)?)?;
+/// A file's rig that a log can start from.
+fn start_of(path: &Path) -> Result<Values, Stop> {
+    let values = values_of(path)?;
     if values.sheet().is_empty() {
         return Err(Stop::in_file(path, "a replay starts from value 0, and here are no values"));
     }
     Ok(values)
-}
-
-/// The rig that a file's bytes are. The second byte of a sheet belongs to its count of values and is 0, which no text has there.
-fn values_in(path: &Path, bytes: &[u8]) -> Result<Values, Stop> {
-    match bytes.get(1) {
-        Some(0) => sheet_in(path, bytes).map(Values::Sheet),
-        _ => Rig::from_utf8(bytes).map(Values::Named).map_err(|fault| Stop::at_fault(path, fault)),
-    }
-}
-
-impl Values {
-    pub fn sheet(&self) -> &Sheet {
-        match self {
-            Values::Sheet(sheet) => sheet,
-            Values::Named(rig) => rig.sheet(),
-        }
-    }
-
-    /// What a value is called: `value 3`, and its name where it has one.
-    pub fn called(&self, index: usize) -> String {
-        let name = match self {
-            Values::Sheet(_) => None,
-            Values::Named(rig) => rig.names().get(index).filter(|name| !name.is_empty()),
-        };
-        name.map_or(format!("value {index}"), |name| format!("value {index} ({})", on_one_line(name)))
-    }
 }
 
 /// A file's log: bytes, or the text of one. A rig that is given for a log is reported as such.
@@ -80,9 +48,9 @@ fn log_in(path: &Path, bytes: &[u8], values: &Values) -> Result<Recorded, Stop> 
         let log = Log::from_bytes(bytes).map_err(|error| Stop::by_library(path, error))?;
         return Ok(Recorded { log, lines: None });
     }
-    let listing = match values {
-        Values::Sheet(sheet) => Listing::over_sheet(bytes, sheet),
-        Values::Named(rig) => Listing::over_rig(bytes, rig),
+    let listing = match values.named() {
+        None => Listing::over_sheet(bytes, values.sheet()),
+        Some(rig) => Listing::over_rig(bytes, rig),
     };
     let listing = listing.map_err(|fault| Stop::at_fault(path, fault))?;
     Ok(Recorded { lines: Some(listing.lines().to_vec()), log: listing.into_log() })
@@ -94,9 +62,14 @@ impl Recorded {
         self.lines.is_some()
     }
 
+    /// The line of a step, where it was read from a text.
+    pub fn line(&self, index: usize) -> Option<usize> {
+        self.lines.as_ref()?.get(index).copied()
+    }
+
     /// A step in words: `step 2 (line 7: halt 4)`. Steps are counted from 1.
     pub fn step(&self, index: usize) -> String {
-        let line = self.lines.iter().flatten().nth(index).map(|line| format!("line {line}: ")).unwrap_or_default();
+        let line = self.line(index).map(|line| format!("line {line}: ")).unwrap_or_default();
         let step = self.log.steps().get(index).map(Step::to_string).unwrap_or_default();
         format!("step {} ({line}{step})", index + 1)
     }
@@ -131,7 +104,7 @@ pub fn first_wrong(log: &[u8], values: usize) -> Option<Wrong> {
 #[cfg(test)]
 mod tests {
     use super::*;
-    use thresholm::{Error, Flavor, Multivector, Replay};
+    use thresholm::{Error, Flavor, Multivector, Replay, Sheet};
 
     fn sheet(values: usize) -> Sheet {
         let one = Multivector::scalar(0, 1.0, Flavor::Vanilla).expect("a number");

@@ -1,4 +1,5 @@
 //! Why the command stops: what it says on standard error, and its exit status.
+use crate::files::is_standard;
 use crate::help::Topic;
 use std::path::Path;
 use std::process::ExitCode;
@@ -15,7 +16,7 @@ pub fn on_one_line(text: &str) -> String {
 
 /// A file's name on one line, whatever its bytes are.
 pub fn shown_path(file: &Path) -> String {
-    on_one_line(&file.to_string_lossy())
+    if is_standard(file) { "standard input".to_string() } else { on_one_line(&file.to_string_lossy()) }
 }
 
 #[derive(Debug)]
@@ -24,6 +25,8 @@ pub enum Stop {
     Usage { topic: Topic, why: String },
     /// What was asked is refused: exit status 1.
     Refused(String),
+    /// Some of it is refused, and what is said of the rest goes to standard output, in the same order: exit status 1.
+    Partly(Vec<Result<String, String>>),
 }
 
 impl Stop {
@@ -46,17 +49,29 @@ impl Stop {
         Stop::in_file(file, format!("refused with {}: {error}", error.number()))
     }
 
+    /// What is said on standard error.
     pub fn message(&self) -> String {
         match self {
             Stop::Usage { topic, why } => format!("thresholm: {why}\n{}", topic.usage()),
             Stop::Refused(why) => why.clone(),
+            Stop::Partly(said) => {
+                said.iter().filter_map(|said| said.as_ref().err()).cloned().collect::<Vec<_>>().join("\n")
+            }
+        }
+    }
+
+    /// What is said: on standard output where it is good, and on standard error where it is not.
+    pub fn said(self) -> Vec<Result<String, String>> {
+        match self {
+            Stop::Partly(said) => said,
+            stop => vec![Err(stop.message())],
         }
     }
 
     pub fn status(&self) -> ExitCode {
         match self {
             Stop::Usage { .. } => ExitCode::from(2),
-            Stop::Refused(_) => ExitCode::from(1),
+            Stop::Refused(_) | Stop::Partly(_) => ExitCode::from(1),
         }
     }
 }
