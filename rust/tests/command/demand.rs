@@ -1,69 +1,9 @@
 //! What `thresholm product` prints beside each coefficient, held against demand 3 as `exact` works it out.
 use crate::exact::{Int, Sum, UNIT, fineness, masks, sums};
+use crate::printed::{Printed, covers, printed};
 use crate::support::{Rng, file, folder, run, sheet};
-use std::collections::HashMap;
 use std::path::Path;
 use thresholm::{Flavor, Multivector, Shape};
-
-/// A printed step: what stands beside each name, and beside those that share a line.
-struct Printed {
-    named: HashMap<String, (String, String)>,
-    others: Option<String>,
-    pairs: String,
-}
-
-/// The steps of an output.
-fn printed(out: &str) -> Vec<Printed> {
-    let mut steps = Vec::new();
-    for line in out.lines() {
-        if line.starts_with("step ") {
-            steps.push(Printed { named: HashMap::new(), others: None, pairs: String::new() });
-        }
-        let Some(step) = steps.last_mut() else {
-            continue;
-        };
-        if let Some((pairs, _)) = line.split_once(" contributing pair") {
-            step.pairs = pairs.trim().to_string();
-        }
-        let Some(row) = line.strip_prefix("    ") else {
-            continue;
-        };
-        let verdict = ["exact", "within ", "no bound"].iter().find_map(|word| row.rfind(word)).expect("a verdict");
-        let (front, verdict) = row.split_at(verdict);
-        let (name, number) = front.trim().rsplit_once(' ').expect("a name and a number");
-        match name.trim() {
-            shared if shared.starts_with("the other ") || shared.starts_with("all ") => {
-                step.others = Some(verdict.to_string())
-            }
-            name => assert!(step.named.insert(name.to_string(), (number.to_string(), verdict.to_string())).is_none()),
-        }
-    }
-    steps
-}
-
-/// The name of a mask's blade.
-fn name(shape: Shape, mask: usize) -> String {
-    let first = usize::from(shape.flavor().metric(0) != 0);
-    let digits: Vec<String> = (0..9).filter(|i| mask >> i & 1 == 1).map(|i| (i + first).to_string()).collect();
-    match digits.len() {
-        0 => "1".to_string(),
-        2 if shape.dims() == 3 && mask == 0b101 => format!("e{}{}", digits[1], digits[0]),
-        _ => format!("e{}", digits.concat()),
-    }
-}
-
-/// A printed bound is not below the limit, and not a whole step of its last digit above it.
-fn covers(bound: &str, limit: &Int) {
-    let (digits, power) = bound.split_once('e').expect("a power");
-    let digits: u64 = digits.replace('.', "").parse().expect("digits");
-    assert!((100..1000).contains(&digits), "{bound}");
-    let power: i32 = power.parse::<i32>().expect("a power") - 2;
-    let ten = |power: i32| (0..power).fold(Int::of(1, 0), |all, _| all.times(&Int::of(10, 0)));
-    let scaled = limit.times(&ten(-power));
-    let units = |digits: u64| Int::of(digits, UNIT + 53).times(&ten(power));
-    assert!(units(digits).compare_sizes(&scaled).is_ge(), "{bound} is below the limit");
-    assert!(units(digits - 1).compare_sizes(&scaled).is_lt(), "{bound} is too far above the limit");
-}
 
 fn in_bounds(numbers: &[f64]) -> bool {
     numbers.iter().all(|x| *x == 0.0 || (x.abs() >= 2f64.powi(-400) && x.abs() <= 2f64.powi(400)))
@@ -88,11 +28,7 @@ impl Tally {
         let pairs: u64 = sums.iter().map(|sum| sum.pairs).sum();
         assert!(!finite || step.pairs == pairs.to_string(), "{pairs} pairs, and printed are {}", step.pairs);
         for ((mask, sum), x) in masks(shape.dims()).iter().zip(&sums).zip(result) {
-            let (number, verdict) = match step.named.get(&name(shape, *mask)) {
-                Some((number, verdict)) => (&**number, &**verdict),
-                None => ("0", step.others.as_deref().expect("a shared line")),
-            };
-            let number: f64 = number.parse().expect("a number");
+            let (number, verdict) = step.coefficient(shape, *mask);
             assert!(number.to_bits() == x.to_bits() || number.is_nan() && x.is_nan(), "{number} for {x}");
             let on_grid = finite && grid <= 46 && sum.total.compare_sizes(&Int::of(1, UNIT + 53 - grid)).is_le();
             match verdict.strip_prefix("within ") {
@@ -120,8 +56,11 @@ impl Tally {
         let patterns: Vec<u64> = values.iter().flat_map(|(_, numbers)| numbers.iter().map(|x| x.to_bits())).collect();
         let rig = file(folder, "factors.rig", &sheet(&shapes, &patterns));
         let indices: Vec<String> = (0..values.len()).map(|index| index.to_string()).collect();
-        let arguments: Vec<&str> = ["product", &rig].into_iter().chain(indices.iter().map(|index| &**index)).collect();
-        let steps = printed(&run(&arguments).done());
+        let words = ["product", "--steps", &rig];
+        let arguments: Vec<&str> = words.into_iter().chain(indices.iter().map(|index| &**index)).collect();
+        let mut steps = printed(&run(&arguments).done());
+        // The whole comes last, unless it is one step.
+        steps.truncate(values.len() - 1);
         assert_eq!(steps.len(), values.len() - 1);
         let value = |(shape, numbers): &(Shape, Vec<f64>)| Multivector::new(*shape, numbers.clone()).expect("a value");
         let mut left = value(&values[0]);
@@ -137,7 +76,7 @@ impl Tally {
 
 /// How the numbers of a list are drawn.
 #[derive(Clone, Copy)]
-enum Kind {
+pub enum Kind {
     /// Multiples of 2^-p of so many digits.
     Grid(i32, u32),
     /// Any digits, sizes from 2^-e to 2^e.
@@ -162,7 +101,7 @@ fn number(r: &mut Rng, kind: Kind) -> f64 {
     }
 }
 
-fn list(r: &mut Rng, shape: Shape, kind: Kind) -> (Shape, Vec<f64>) {
+pub fn list(r: &mut Rng, shape: Shape, kind: Kind) -> (Shape, Vec<f64>) {
     (shape, (0..shape.blade_count().unwrap()).map(|_| number(r, kind)).collect())
 }
 

@@ -32,15 +32,11 @@ fn the_product_of_two_moves_is_the_stored_one() {
 }
 
 #[test]
-fn the_readmes_have_the_same_product() {
+fn the_page_has_the_same_product() {
     let stored = fs::read_to_string(example("product.txt")).expect("it is there");
     let block: String = stored.lines().map(|line| format!("    {line}\n")).collect();
-    for (name, heading) in [("examples/README.md", "# A small room"), ("README.md", "## Two commands")] {
-        let readme = fs::read_to_string(repository(name)).expect("it is there");
-        let (_, section) = readme.split_once(&format!("{heading}\n")).expect("the heading");
-        let section = section.split("\n## ").next().unwrap_or(section);
-        assert!(section.contains(&format!("{block}\n")), "{name} has another product");
-    }
+    let page = fs::read_to_string(example("README.md")).expect("it is there");
+    assert!(page.contains(&format!("    $ thresholm product target/room.rig 10 9\n{block}\n")), "{block}");
 }
 
 /// What `thresholm replay` prints of the moves over the room, each file named as in the repository.
@@ -122,7 +118,7 @@ fn a_microphone_slides_exactly() {
     let rig = room("example-slide");
     let out = run(&["product", &rig, "7", "0", "8"]).done();
     assert!(out.contains("  1000e₀₁ + 300e₂₀ + e₁₂\n"), "{out}");
-    assert!(out.ends_with("whole product: exact, since every step is\n"), "{out}");
+    assert!(out.ends_with("  guaranteed of the whole: all exact\n"), "{out}");
 }
 
 #[test]

@@ -1,8 +1,8 @@
 //! `thresholm import --over`: the text of a log becomes its bytes, or is refused as a replay refuses it.
-use crate::support::{Run, file, folder, run};
+use crate::support::{Run, file, folder, run, sheet};
 use std::fs;
 use std::path::PathBuf;
-use thresholm::{Log, Step};
+use thresholm::{Log, Shape, Step};
 
 /// A point of the plane, a turn, and three numbers.
 const ROOM: &[u8] =
@@ -61,8 +61,10 @@ fn a_text_becomes_the_bytes_of_its_steps() {
     assert_eq!(fs::read(&written).expect("a log"), [3, 255], "an old log is replaced");
     for none in [&b""[..], b"# nothing\n"] {
         let none = file(&room.folder, "none.txt", none);
-        assert_eq!(room.import(&none, &room.rig).done(), format!("{written}: 0 steps, 0 bytes\n"));
+        let forced = run(&["import", &none, "--over", &room.rig, "--force", "-o", &written]);
+        assert_eq!(forced.done(), format!("{written}: 0 steps, 0 bytes\n"));
         assert_eq!(fs::read(&written).expect("a log"), []);
+        assert_eq!(room.import(&none, &room.rig).done(), format!("{written}: 0 steps, 0 bytes\n"));
     }
     let most = file(&room.folder, "most.txt", "halt 4\n".repeat(200).as_bytes());
     assert_eq!(room.import(&most, &room.rig).done(), format!("{written}: 200 steps, 400 bytes\n"));
@@ -117,12 +119,13 @@ fn a_log_that_is_wrong_is_refused_as_by_a_replay() {
     }
     let says = ":1:11: the byte 0xE9 is no part of a text (save the file as UTF-8)".to_string();
     assert_eq!(room.refused(&room.text, b"reverse # \xE9"), [says.clone(), says]);
-    let says = ":1:6: a rig sheet holds no names, so a value goes by its number: 'two' (names stand in the rig's text)";
+    fs::remove_file(room.path("room.rig.names")).expect("they are there");
+    let says = ":1:6: a rig sheet holds no names, so a value goes by its number: 'two' (names stand in the rig's text, or beside the sheet)";
     assert_eq!(room.refused(&room.rig, "left two"), [says, says]);
 }
 
 #[test]
-fn what_is_no_text_of_a_log_is_told() {
+fn what_is_no_text_of_a_log_is_named() {
     let room = room("log-other");
     let sheet = fs::read(&room.rig).expect("a sheet");
     for rig in [ROOM, &sheet] {
@@ -142,7 +145,7 @@ fn what_is_no_text_of_a_log_is_told() {
 }
 
 #[test]
-fn a_log_without_its_rig_is_told() {
+fn a_log_without_its_rig_is_explained() {
     let room = room("log-alone");
     let output = room.path("never.rig");
     let said = |text: &str| {
@@ -154,10 +157,29 @@ fn a_log_without_its_rig_is_told() {
         let message = said(text);
         assert!(message.contains(": a value starts with a line such as ") && message.ends_with(hint), "{message}");
     }
-    for text in ["left microphone: 3 PGA\n 1 2", "mic: 0 VGA\n 1\nleft 3", "7", "lefty 3"] {
+    for text in ["left microphone: 3 PGA\n 1 2", "left mic 3 PGA", "mic: 0 VGA\n 1\nleft 3", "7", "lefty 3"] {
         assert!(!said(text).ends_with(hint), "{text:?}");
     }
     assert!(!PathBuf::from(output).exists(), "nothing is written");
+}
+
+#[test]
+fn nothing_takes_the_place_of_a_good_log() {
+    let room = room("log-good");
+    let empty = file(&room.folder, "none.txt", b"# nothing\n");
+    let one = sheet(&[Shape::default()], &[7]);
+    for (old, called) in
+        [(&[2, 0, 3, 4][..], "a log of 2 steps"), (&[0; 6], "a log of 3 steps"), (&one, "a rig sheet of 1 value")]
+    {
+        let log = file(&room.folder, "moves.log", old);
+        let why = format!("this is {called}, and {empty} has no steps: it is not replaced without --force");
+        assert_eq!(room.import(&empty, &room.rig).refused(), format!("{log}: {why}\n"));
+        assert_eq!(fs::read(&log).expect("it is there"), old);
+        run(&["import", &empty, "--over", &room.rig, "-o", &log, "--force"]).done();
+        assert_eq!(fs::read(&log).expect("it is there"), []);
+    }
+    file(&room.folder, "moves.log", b"neither");
+    room.import(&empty, &room.rig).done();
 }
 
 #[test]

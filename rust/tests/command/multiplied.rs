@@ -1,13 +1,11 @@
-//! `thresholm product`: what it prints, and when it refuses.
+//! `thresholm product` of two factors: what it prints, and when it refuses.
 use crate::support::{file, folder, run};
+use thresholm::rig::Rig;
 
-/// A sheet of a text's values.
-fn rig(test: &str, text: &str) -> String {
-    let folder = folder(test);
-    let text = file(&folder, "room.txt", text.as_bytes());
-    let rig = folder.join("room.rig").to_str().expect("a plain path").to_string();
-    run(&["import", &text, "-o", &rig]).done();
-    rig
+/// A sheet of a text's values, without their names.
+pub fn rig(test: &str, text: &str) -> String {
+    let rig: Rig = text.parse().expect("the text of a rig");
+    file(&folder(test), "room.rig", &rig.sheet().to_bytes().expect("its bytes"))
 }
 
 #[test]
@@ -23,45 +21,6 @@ step 1: value 0 times value 1
   guaranteed: all within 1.76e-14 of the exact sum
 ";
     assert_eq!(run(&["product", &rig, "0", "1"]).done(), expected);
-    let expected = "\
-step 1: value 1 times value 2
-  16 contributing pairs; the result has 2 dimensions, flavor VGA:
-  ¯12e₁ - 1.5e₂
-    e1           -12   exact
-    e2           -1.5  exact
-    the other 2  0     exact
-  guaranteed: all exact
-step 2: the result of step 1 times value 1
-  16 contributing pairs; the result has 2 dimensions, flavor VGA:
-  ¯4.5 - 36e₁₂
-    1            -4.5  exact
-    e12          -36   exact
-    the other 2  0     exact
-  guaranteed: all exact
-whole product: exact, since every step is
-";
-    assert_eq!(run(&["product", &rig, "1", "2", "1"]).done(), expected);
-}
-
-/// The last line of a product.
-fn last(rig: &str, indices: &[&str]) -> String {
-    let out = run(&[&["product", rig], indices].concat()).done();
-    out.lines().last().expect("a line").to_string()
-}
-
-#[test]
-fn the_whole_follows_from_its_steps() {
-    let rig = rig("whole", "a: 1 VGA\n 1 2\nb: 1 VGA\n 0.1 1\nc: 1 VGA\n 3 4");
-    assert_eq!(last(&rig, &["0", "2", "0"]), "whole product: exact, since every step is");
-    assert_eq!(
-        last(&rig, &["0", "2", "1"]),
-        "whole product: step 2 says how near, since every step before it is exact"
-    );
-    let each =
-        "whole product: each step's bound is about that step alone, with the result of the step before it as it stands";
-    assert_eq!(last(&rig, &["1", "2", "0"]), each);
-    assert_eq!(last(&rig, &["0", "1", "2", "0"]), each);
-    assert_eq!(last(&rig, &["0", "2"]), "  guaranteed: all exact");
 }
 
 #[test]

@@ -2,25 +2,26 @@
 use crate::support::{file, folder, run, sheet};
 use std::fs;
 use std::path::{Path, PathBuf};
+use thresholm::rig::Rig;
 use thresholm::{Flavor, Log, Multivector, Shape, Sheet, Step};
 
 /// A point of the plane, a turn, and three numbers.
-const ROOM: &[u8] =
+pub const ROOM: &[u8] =
     b"mic: 2 VGA\n e1 = 3 e2 = 4\nquarter turn: 2 VGA\n e12 = 1\none: 0 VGA\n 1\ntwo: 0 VGA\n 2\n: 0 VGA\n 4";
 
-/// The files of one test: a rig as text and as a sheet, and a log.
-struct Files {
-    folder: PathBuf,
-    text: String,
-    rig: String,
-    log: String,
+/// The files of one test: a rig as text and as a sheet without names, and a log.
+pub struct Files {
+    pub folder: PathBuf,
+    pub text: String,
+    pub rig: String,
+    pub log: String,
 }
 
-fn files(test: &str, rig: &[u8], log: impl AsRef<[u8]>) -> Files {
+pub fn files(test: &str, rig: &[u8], log: impl AsRef<[u8]>) -> Files {
     let folder = folder(test);
     let text = file(&folder, "room.txt", rig);
-    let rig = folder.join("room.rig").to_str().expect("a plain path").to_string();
-    run(&["import", &text, "-o", &rig]).done();
+    let read = Rig::from_utf8(rig).expect("the text of a rig");
+    let rig = file(&folder, "room.rig", &read.sheet().to_bytes().expect("its bytes"));
     let log = file(&folder, "moves.txt", log.as_ref());
     Files { folder, text, rig, log }
 }
@@ -188,7 +189,7 @@ fn a_log_that_is_wrong_is_refused_with_its_line() {
     assert_eq!(
         run(&["replay", &files.rig, &log]).refused(),
         format!(
-            "{log}:1:6: a rig sheet holds no names, so a value goes by its number: 'two' (names stand in the rig's text)\n"
+            "{log}:1:6: a rig sheet holds no names, so a value goes by its number: 'two' (names stand in the rig's text, or beside the sheet)\n"
         )
     );
 }

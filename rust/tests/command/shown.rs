@@ -69,6 +69,98 @@ fn from_4_dimensions_on_every_blade_rises() {
     assert!(out.contains("  # 2e₀₂\n  e02 = 2\n") && out.contains("  # 2e₁₃\n  e13 = 2\n"), "{out}");
 }
 
+#[test]
+fn the_workstations_printing_is_there_for_comparison() {
+    let folder = folder("workstation");
+    let text = file(&folder, "room.txt", b"line: 4 PGA\n e02 = 2 e12 = -1\nturn: 3 VGA\n e31 = 2\n: 0 VGA\n 0");
+    let rig = folder.join("room.rig").to_str().expect("a plain path").to_string();
+    run(&["import", &text, "-o", &rig]).done();
+    let expected = format!(
+        "# {rig}: 3 values, 25 coefficients
+
+line: 4 dimensions, flavor PGA
+  # e0 squares to 0; e1 e2 e3 square to 1
+  # 2e₀₂ - e₁₂
+  # workstation: 2e₂₀ - e₁₂
+  e02 = 2
+  e12 = -1
+  # the other 14 are 0
+
+turn: 3 dimensions, flavor VGA
+  # e1 e2 e3 square to 1
+  # 2e₃₁
+  # workstation: 2e₃₁
+  e31 = 2
+  # the other 7 are 0
+
+: 0 dimensions, flavor VGA
+  # a number alone
+  # 0e₀
+  # workstation: 0e₀
+  1 = 0
+"
+    );
+    let shown = run(&["show", "--workstation", &rig]).done();
+    assert_eq!(shown, expected);
+    let before = ["room.rig", "room.rig.names"].map(|name| fs::read(folder.join(name)).expect("it is there"));
+    let again = file(&folder, "again.txt", shown.as_bytes());
+    run(&["import", &again, "-o", &rig]).done();
+    assert_eq!(["room.rig", "room.rig.names"].map(|name| fs::read(folder.join(name)).expect("it is there")), before);
+}
+
+/// What `show --json` prints of the sheet below.
+fn json_of(rig: &str) -> String {
+    format!(
+        r#"{{
+  "thresholm": "show",
+  "form": 1,
+  "rig": "{rig}",
+  "note": null,
+  "values": [
+    {{
+      "value": 0,
+      "name": "a \"b\"",
+      "shape": {{
+        "dims": 1,
+        "flavor": "PGA"
+      }},
+      "blades": ["1", "e0"],
+      "numbers": [-0.0, "nan"],
+      "bits": ["0x8000000000000000", "0xFFF8000000000001"]
+    }},
+    {{
+      "value": 1,
+      "name": null,
+      "shape": {{
+        "dims": 0,
+        "flavor": "Cl 3 0 1"
+      }},
+      "blades": ["1"],
+      "numbers": [1e-7],
+      "bits": ["0x3E7AD7F29ABCAF48"]
+    }}
+  ]
+}}
+"#
+    )
+}
+
+#[test]
+fn a_sheet_is_shown_to_programs() {
+    let folder = folder("programs");
+    let text = file(&folder, "room.txt", b"a \"b\": 1 PGA\n -0 0xFFF8000000000001\n: 0 Cl 3 0 1\n 1e-7");
+    let rig = folder.join("room.rig").to_str().expect("a plain path").to_string();
+    run(&["import", &text, "-o", &rig]).done();
+    assert_eq!(run(&["show", "--json", &rig]).done(), json_of(&rig));
+    let names = file(&folder, "room.rig.names", b"mine");
+    let shown = run(&["show", "--json", &rig]).done();
+    let note = format!("  \"note\": \"{names} is not used: it is no file of names\",\n");
+    assert!(shown.contains(&note) && !shown.contains("a \\\"b"), "{shown}");
+    let none = file(&folder, "none.rig", &[0; 6]);
+    assert!(run(&["show", "--json", &none]).done().ends_with("  \"values\": []\n}\n"));
+    run(&["show", "--json", &text]).refused();
+}
+
 /// A number of any kind, now and then one that is seldom met.
 fn pattern(r: &mut Rng) -> u64 {
     let rare = [
@@ -103,7 +195,7 @@ fn what_is_shown_imports_as_the_same_bytes() {
         let rig = file(&folder, "one.rig", &bytes);
         let text = file(&folder, "one.txt", run(&["show", &rig]).done().as_bytes());
         let again = folder.join("again.rig");
-        run(&["import".as_ref(), text.as_ref(), "-o".as_ref(), again.as_os_str()]).done();
+        run(&["import".as_ref(), text.as_ref(), "--force".as_ref(), "-o".as_ref(), again.as_os_str()]).done();
         assert_eq!(fs::read(&again).expect("a sheet"), bytes);
     }
 }

@@ -1,9 +1,7 @@
-//! Help, the version, what is not understood, and where standard output goes.
-use crate::support::{command, file, folder, run, told};
-use std::io::Read;
-use std::process::Stdio;
+//! Help, the version, and what is not understood.
+use crate::support::run;
 
-const SUBCOMMANDS: [&str; 5] = ["import", "show", "check", "product", "replay"];
+const SUBCOMMANDS: [&str; 7] = ["import", "show", "check", "product", "replay", "drift", "diff"];
 
 #[test]
 fn help_names_every_subcommand() {
@@ -52,16 +50,19 @@ fn the_version_is_the_crates() {
 }
 
 /// Command lines, and what is said of them.
-const MISUSED: [(&[&str], &str); 47] = [
+const MISUSED: [(&[&str], &str); 59] = [
     (&[], "what shall be done?"),
     (&["mix"], "there is no subcommand 'mix'"),
     (&["-x"], "there is no subcommand '-x'"),
+    (&["chekc", "a"], "there is no subcommand 'chekc' (did you mean check?)"),
     (&["help", "mix"], "there is no help for 'mix'"),
+    (&["help", "dfif"], "there is no help for 'dfif' (did you mean diff?)"),
     (&["help", "show", "check"], "help takes one name, so 'check' is too many"),
     (&["import"], "the text file to read is missing"),
     (&["import", "a.txt"], "-o and the rig sheet to write are missing"),
     (&["import", "a.txt", "-o"], "after -o comes the file to write"),
     (&["import", "a.txt", "-o", "b", "-o", "c"], "-o is here twice"),
+    (&["import", "a.txt", "-o", "b", "--force", "--force"], "--force is here twice"),
     (&["import", "a.txt", "b.txt", "-o", "c"], "one text file is read, so 'b.txt' is too many"),
     (&["import", "-o", "c"], "the text file to read is missing"),
     (&["import", "--over", "r", "-o", "c"], "the text file to read is missing"),
@@ -69,33 +70,42 @@ const MISUSED: [(&[&str], &str); 47] = [
     (&["import", "a.txt", "-o", "c", "--over"], "after --over comes the rig of the log to read"),
     (&["import", "a.txt", "--over", "r", "--over", "s", "-o", "c"], "--over is here twice"),
     (&["import", "a.txt", "b.txt", "--over", "r", "-o", "c"], "one text file is read, so 'b.txt' is too many"),
-    (&["import", "a.txt", "--over=r", "-o", "c"], "there is no option '--over=r'"),
+    (&["import", "a.txt", "--over=r", "-o", "c"], "there is no option '--over=r' (write --over r)"),
+    (&["import", "a.txt", "--froce", "-o", "c"], "there is no option '--froce' (did you mean --force?)"),
+    (&["import", "-", "--over", "-", "-o", "c"], "standard input can be read once, so - is here too often"),
     (&["show"], "the rig sheet to read is missing"),
     (&["show", "a", "b"], "one rig sheet is read, so 'b' is too many"),
     (&["show", "-o", "a"], "there is no option '-o'"),
+    (&["show", "--hlep", "a"], "there is no option '--hlep' (did you mean --help?)"),
+    (&["show", "--json", "a", "--workstation"], "--workstation and --json cannot both be asked for"),
     (&["check", "--quick", "a"], "there is no option '--quick'"),
+    (&["check", "--strikt", "a"], "there is no option '--strikt' (did you mean --strict?)"),
+    (&["check", "--strict=1", "a"], "there is no option '--strict=1' (did you mean --strict?)"),
     (&["check"], "the rig sheet to read is missing"),
-    (&["product"], "the rig sheet to read is missing"),
-    (&["product", "a"], "a product needs the numbers of two values or more"),
-    (&["product", "a", "1"], "a product needs the numbers of two values or more"),
-    (&["product", "a", "1", "x"], "a value is named by its number, 0 or more: 'x'"),
-    (&["product", "a", "1", "+2"], "a value is named by its number, 0 or more: '+2'"),
-    (&["product", "a", "1", ""], "a value is named by its number, 0 or more: ''"),
+    (&["check", "--strict"], "the rig sheet to read is missing"),
+    (&["check", "-", "a", "-"], "standard input can be read once, so - is here too often"),
+    (&["product"], "the rig to read is missing"),
+    (&["product", "a"], "a product needs two values or more"),
+    (&["product", "a", "1"], "a product needs two values or more"),
     (&["product", "a", "1", "-2"], "there is no option '-2'"),
-    (&["product", "a", "1", "1.5"], "a value is named by its number, 0 or more: '1.5'"),
+    (&["product", "a", "1", "2", "--cue", "1"], "there is no option '--cue'"),
     (&["replay"], "the rig and the log to read are missing"),
     (&["replay", "--cue", "1", "-o", "c"], "the rig and the log to read are missing"),
     (&["replay", "a"], "the log to read is missing"),
     (&["replay", "a", "b", "c"], "one rig and one log are read, so 'c' is too many"),
+    (&["replay", "-", "-"], "standard input can be read once, so - is here too often"),
     (&["replay", "a", "b", "-o"], "after -o comes the file to write"),
     (&["replay", "a", "b", "-o", "c", "-o", "d"], "-o is here twice"),
     (&["replay", "a", "b", "--cue"], "after --cue comes the number of steps to replay"),
+    (&["replay", "a", "b", "-o", "--json"], "after -o comes the file to write"),
     (&["replay", "a", "b", "--cue", "1", "--cue", "2"], "--cue is here twice"),
     (&["replay", "a", "b", "--cue", "one"], "a cue is a number of steps, 0 or more: 'one'"),
     (&["replay", "a", "b", "--cue", "-1"], "a cue is a number of steps, 0 or more: '-1'"),
     (&["replay", "--over", "a", "b"], "there is no option '--over'"),
-    (&["replay", "a", "b", "--cue=1"], "there is no option '--cue=1'"),
-    (&["product", "a", "1", "2", "--cue", "1"], "there is no option '--cue'"),
+    (&["replay", "a", "b", "--cue=1"], "there is no option '--cue=1' (write --cue 1)"),
+    (&["diff", "a"], "two rigs are compared, and here are fewer"),
+    (&["diff", "-", "-"], "standard input can be read once, so - is here too often"),
+    (&["drift", "a", "b", "--unit", "mm"], "--unit is for the picture, and no --svg is here"),
     (&["--version", "x"], "nothing follows --version, so 'x' is too many"),
     (&["-V", "--version"], "nothing follows -V, so '--version' is too many"),
     (&["--help", "show"], "nothing follows --help, so 'show' is too many"),
@@ -103,7 +113,7 @@ const MISUSED: [(&[&str], &str); 47] = [
 ];
 
 #[test]
-fn what_is_not_understood_is_told() {
+fn what_is_not_understood_is_explained() {
     for (arguments, says) in MISUSED {
         let message = run(arguments).misused();
         let mut lines = message.lines();
@@ -116,100 +126,4 @@ fn what_is_not_understood_is_told() {
 fn two_dashes_end_the_options() {
     assert!(run(&["show", "--", "-o"]).refused().starts_with("-o: it cannot be read: "));
     assert!(run(&["import", "-o", "c", "--", "-x"]).refused().starts_with("-x: it cannot be read: "));
-}
-
-#[test]
-fn files_that_cannot_be_read_are_told() {
-    let folder = folder("unreadable");
-    let here = folder.to_str().expect("a plain path");
-    for subcommand in [&["show"][..], &["check"], &["product"], &["import"]] {
-        let rest: &[&str] = match subcommand {
-            ["product"] => &["0", "0"],
-            ["import"] => &["-o", "never-written.rig"],
-            _ => &[],
-        };
-        for path in [here, &format!("{here}/none"), "", "a\nb"] {
-            let message = run(&[subcommand, &[path], rest].concat()).refused();
-            let shown = path.replace('\n', "\\n");
-            assert!(message.starts_with(&format!("{shown}: it cannot be read: ")), "{message}");
-        }
-    }
-}
-
-#[test]
-fn a_rig_or_a_log_that_cannot_be_read_is_told() {
-    let folder = folder("unreadable-log");
-    let here = folder.to_str().expect("a plain path");
-    let rig = file(&folder, "one.txt", b": 0 VGA\n1");
-    for path in [here, &format!("{here}/none"), "", "a\nb"] {
-        for arguments in [
-            &["replay", path, &rig][..],
-            &["replay", &rig, path],
-            &["import", path, "--over", &rig, "-o", "never-written.log"],
-            &["import", &rig, "--over", path, "-o", "never-written.log"],
-        ] {
-            let message = run(arguments).refused();
-            let shown = path.replace('\n', "\\n");
-            assert!(message.starts_with(&format!("{shown}: it cannot be read: ")), "{message}");
-        }
-    }
-}
-
-#[cfg(unix)]
-#[test]
-fn arguments_may_be_any_bytes() {
-    use std::ffi::{OsStr, OsString};
-    use std::os::unix::ffi::OsStringExt;
-    let odd = OsString::from_vec(vec![b'x', 0xFF, 0xFE]);
-    let word = OsStr::new;
-    assert!(run(std::slice::from_ref(&odd)).misused().contains("there is no subcommand 'x\u{fffd}\u{fffd}'"));
-    assert!(run(&[word("help"), &odd]).misused().contains("there is no help for"));
-    assert!(run(&[word("show"), &odd]).refused().contains("it cannot be read"));
-    assert!(run(&[word("product"), &odd, word("0"), &odd]).misused().contains("a value is named by its number"));
-    assert!(run(&[word("replay"), &odd, &odd, word("--cue"), &odd]).misused().contains("a cue is a number of steps"));
-    let dashed = OsString::from_vec(vec![b'-', 0xFF]);
-    assert!(run(&[word("check"), &dashed]).misused().contains("there is no option"));
-}
-
-#[cfg(unix)]
-#[test]
-fn names_of_files_may_be_any_bytes() {
-    use std::ffi::{OsStr, OsString};
-    use std::os::unix::ffi::OsStringExt;
-    let odd = OsString::from_vec(vec![b'x', 0xFF, 0xFE]);
-    let word = OsStr::new;
-    let folder = folder("odd-names");
-    let text = file(&folder, "one.txt", b": 0 VGA\n1");
-    let rig = folder.join(&odd);
-    assert_eq!(run(&[word("import"), word(&text), word("-o"), rig.as_os_str()]).status, 0);
-    assert!(run(&[word("check"), rig.as_os_str()]).done().ends_with("valid: 1 value, 1 coefficient\n"));
-}
-
-/// A sheet whose `show` is far longer than what a pipe holds.
-fn long_sheet(folder: &std::path::Path) -> String {
-    let shapes = [thresholm::Shape::new(9, thresholm::Flavor::Vanilla); 8];
-    file(folder, "long.rig", &crate::support::sheet(&shapes, &[0x3FB9_9999_9999_999A; 4096]))
-}
-
-#[test]
-fn a_reader_that_goes_away_is_no_fault() {
-    let rig = long_sheet(&folder("gone"));
-    let mut child =
-        command().args(["show", &rig]).stdout(Stdio::piped()).stderr(Stdio::piped()).spawn().expect("the command runs");
-    let mut first = [0; 10];
-    child.stdout.take().expect("a pipe").read_exact(&mut first).expect("a few bytes");
-    let run = told(&child.wait_with_output().expect("it ends"));
-    assert_eq!((run.status, &*run.err), (0, ""));
-}
-
-#[cfg(target_os = "linux")]
-#[test]
-fn a_full_disk_is_told() {
-    let full = || std::fs::File::options().write(true).open("/dev/full").expect("it is there");
-    let run = told(&command().arg("help").stdout(full()).output().expect("the command runs"));
-    assert_eq!(run.status, 1);
-    assert!(run.err.starts_with("thresholm: standard output cannot be written: "), "{}", run.err);
-    // With nowhere to say why, the exit status still says so.
-    let status = command().arg("mix").stderr(full()).status().expect("the command runs");
-    assert_eq!(status.code(), Some(2));
 }

@@ -15,7 +15,7 @@ fn an_old_sheet_stays_until_the_text_is_right() {
     run(&["import", &right, "-o", &rig]).done();
     assert_eq!(fs::read(&rig).expect("it is there"), sheet(&[Shape::default()], &[1f64.to_bits()]));
     let names = fs::read_dir(&folder).expect("a folder").count();
-    assert_eq!(names, 3, "no other file is left");
+    assert_eq!(names, 4, "no other file is left but the names");
 }
 
 #[test]
@@ -40,7 +40,7 @@ fn a_text_is_not_overwritten_by_its_sheet() {
 }
 
 #[test]
-fn a_sheet_that_cannot_be_written_is_told() {
+fn a_sheet_that_cannot_be_written_is_named() {
     let folder = folder("unwritable");
     let text = file(&folder, "room.txt", b"mic: 0 VGA\n1");
     let here = folder.to_str().expect("a plain path");
@@ -87,6 +87,64 @@ fn links_and_devices_are_written_through() {
     let round = linked(&folder, "round.rig", "round.rig");
     assert!(run(&["import", &text, "-o", &round]).refused().starts_with(&format!("{round}: it cannot be written: ")));
     run(&["import", &text, "-o", "/dev/null"]).done();
+}
+
+/// Makes a file read-only by its permissions, which alone decide.
+fn protect(path: &str) {
+    let mut permissions = fs::metadata(path).expect("it is there").permissions();
+    permissions.set_readonly(true);
+    fs::set_permissions(path, permissions).expect("a mode");
+}
+
+#[test]
+fn a_write_protected_file_is_not_replaced() {
+    let folder = folder("protected");
+    let text = file(&folder, "room.txt", b": 0 VGA\n1");
+    let log = file(&folder, "moves.txt", b"reverse");
+    let old = file(&folder, "old.rig", b"old");
+    protect(&old);
+    let mut ways = vec![old.clone()];
+    if cfg!(unix) {
+        ways.push(linked(&folder, "link.rig", "old.rig"));
+        ways.push(linked(&folder, "twice.rig", "link.rig"));
+    }
+    let before = fs::read_dir(&folder).expect("a folder").count();
+    for way in &ways {
+        for arguments in [
+            &["import", &text, "-o", way][..],
+            &["import", &text, "--force", "-o", way],
+            &["import", &log, "--over", &text, "-o", way],
+            &["replay", &text, &log, "-o", way],
+        ] {
+            let why = "it is write-protected, and is not replaced (write to another file, or allow writing)";
+            assert_eq!(run(arguments).refused(), format!("{way}: {why}\n"));
+        }
+    }
+    assert_eq!(fs::read(&old).expect("it is there"), b"old");
+    assert!(fs::metadata(&old).expect("it is there").permissions().readonly(), "it stays protected");
+    assert_eq!(fs::read_dir(&folder).expect("a folder").count(), before, "no other file is left");
+}
+
+#[test]
+fn nothing_takes_the_place_of_a_good_sheet() {
+    let folder = folder("nothing");
+    let good = sheet(&[Shape::default(), Shape::default()], &[1, 2]);
+    let rig = file(&folder, "room.rig", &good);
+    for text in [&b""[..], b"# mic: 0 VGA\n#  1\n"] {
+        let text = file(&folder, "room.txt", text);
+        let why =
+            format!("this is a rig sheet of 2 values, and {text} has no values: it is not replaced without --force");
+        assert_eq!(run(&["import", &text, "-o", &rig]).refused(), format!("{rig}: {why}\n"));
+        assert_eq!(fs::read(&rig).expect("it is there"), good);
+        for other in [&b"no sheet"[..], &[0; 6], &good[..20]] {
+            let other = file(&folder, "other.rig", other);
+            run(&["import", &text, "-o", &other]).done();
+            assert_eq!(fs::read(&other).expect("it is there"), [0; 6]);
+        }
+    }
+    let text = folder.join("room.txt").to_str().expect("a plain path").to_string();
+    assert_eq!(run(&["import", &text, "-o", &rig, "--force"]).done(), format!("{rig}: 0 values, 0 coefficients\n"));
+    assert_eq!(fs::read(&rig).expect("it is there"), [0; 6]);
 }
 
 #[cfg(unix)]
