@@ -85,6 +85,7 @@ fn names_are_used_in_messages_and_as_arguments() {
         "room.rig: value 2 and value 3 are both called 'quarter turn' (name it by its number)\n"
     );
     assert_eq!(said("Left  mic"), "room.rig: no value is called 'Left  mic' (it is written 'left mic')\n");
+    assert_eq!(said("lft mic"), "room.rig: no value is called 'lft mic' (did you mean 'left mic'?)\n");
     assert_eq!(
         said("right mic"),
         "room.rig: no value is called 'right mic' (write a name as it stands in the rig, or the number of a value)\n"

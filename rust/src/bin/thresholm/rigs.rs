@@ -1,4 +1,5 @@
 //! A file's rig: a sheet, or the text of one, with the names of its values where they are known.
+use crate::arguments::nearest;
 use crate::diagnosis::MOST_BYTES;
 use crate::files::{bytes_of, sheet_in, text_of};
 use crate::looks::is_utf16;
@@ -114,12 +115,13 @@ impl Values {
     /// What is wrong with a name that no value has.
     fn unknown(&self, word: &str) -> String {
         let plain = |name: &str| name.split_whitespace().collect::<Vec<_>>().join(" ").to_lowercase();
-        let near = (0..self.sheet().len()).filter_map(|index| self.name(index)).find(|name| plain(name) == plain(word));
+        let names = || (0..self.sheet().len()).filter_map(|index| self.name(index));
         let no = format!("no value is called {}", quoted(word));
-        match near {
-            Some(near) => format!("{no} (it is written {})", quoted(near)),
-            None if self.named => format!("{no} (write a name as it stands in the rig, or the number of a value)"),
-            None => match self.note() {
+        match (names().find(|name| plain(name) == plain(word)), nearest(word, names())) {
+            (Some(name), _) => format!("{no} (it is written {})", quoted(name)),
+            (None, Some(near)) => format!("{no} (did you mean {}?)", quoted(near)),
+            _ if self.named => format!("{no} (write a name as it stands in the rig, or the number of a value)"),
+            _ => match self.note() {
                 Some(note) => format!("{no}: {note}"),
                 None => format!("{no}: this rig sheet has no names, so a value goes by its number, 0 or more"),
             },

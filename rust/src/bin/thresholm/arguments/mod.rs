@@ -4,12 +4,12 @@ mod options;
 mod tasks;
 mod words;
 
+pub use nearest::nearest;
 pub use tasks::{Check, Diff, Drift, Import, ImportLog, Product, Replay, Show, Task};
 pub use words::shown;
 
 use crate::help::{NAMES, Topic};
 use crate::stop::Stop;
-use nearest::nearest;
 use std::ffi::{OsStr, OsString};
 use words::words_of;
 
