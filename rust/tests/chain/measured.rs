@@ -17,12 +17,15 @@ const CUES: [usize; 6] = [1, 3, 10, 30, 100, STEPS];
 struct Figures(Vec<f64>);
 
 impl Figures {
-    /// Takes the ratios of true distances to guaranteed ones that are not 0, nor so small that an f64 has few digits of them. None is above 1.
+    /// Takes the ratios of true distances to guaranteed ones that are not 0, nor so small that an f64 has few digits of them. None is above 1: both are
+    /// rounded up, so that one which is less as rounded is less before. So small ones may be the same as rounded.
     fn take(&mut self, pose: &Twin) {
         for (place, (gap, guaranteed)) in pose.distances().into_iter().enumerate() {
             let (steps, value) = (pose.chain.steps(), pose.chain.value());
-            assert!(gap <= guaranteed, "place {place} after {steps} steps: {gap:e} > {guaranteed:e} in {value:?}");
-            if guaranteed >= f64::MIN_POSITIVE {
+            let small = guaranteed < f64::MIN_POSITIVE;
+            let within = gap == 0.0 || gap < guaranteed || small && gap == guaranteed;
+            assert!(within, "place {place} after {steps} steps: {gap:e} beyond {guaranteed:e} in {value:?}");
+            if !small {
                 self.0.push(gap / guaranteed);
             }
         }
