@@ -1,5 +1,7 @@
 // Replays calls with their answers, and says how many agree and which is the first that does not. README.md beside
 // this folder's `stdin` says how a call is written and how the list was made.
+#![tactic(auto)]
+
 mod calls;
 mod compare;
 mod replays;
@@ -9,9 +11,9 @@ mod sheet_lines;
 mod values;
 mod words;
 
-ghost use Rattle.std.specs.Prelude.{◌≡◌, length};
+ghost use Rattle.std.specs.Prelude.{◌≡◌, ◌≤◌, length, IfOk};
 
-use libc::{STDIN_FILENO, STDOUT_FILENO};
+use std::io::{self, BufReader, Read};
 
 // Room for a line. The `ensures` gives only the length, which lending the array as a slice needs.
 fn line_space() -> [u8; 262144]
@@ -40,7 +42,7 @@ fn number_space() -> [f64; 5000]
 }
 
 // How many calls were read and agree, and the first that does not, counted from 1; 0 while there is none.
-#[derive(Drop)]
+#[derive(Clone, Copy)]
 struct Tally {
     read: u64,
     agree: u64,
@@ -48,11 +50,11 @@ struct Tally {
 }
 
 fn counted(t: Tally, agrees: bool) -> Tally {
-    let read = std::num::wrapping_add_u64(t.read, 1);
+    let read = t.read.wrapping_add(1);
     if agrees {
         return Tally {
             read,
-            agree: std::num::wrapping_add_u64(t.agree, 1),
+            agree: t.agree.wrapping_add(1),
             first: t.first,
         };
     }
@@ -71,7 +73,7 @@ fn counted(t: Tally, agrees: bool) -> Tally {
 }
 
 // What one line holds: nothing left, or whether its call agrees.
-#[derive(Drop)]
+#[derive(Clone, Copy)]
 enum Line {
     End,
     Call(bool),
@@ -87,26 +89,47 @@ fn agrees(t: &[u8], bytes: &mut [u8], patterns: &mut [u64], numbers: &mut [f64])
     }
 }
 
+// Reads until the buffer is full or the input ends, and says how many bytes were read.
+fn read_full<R: Read>(input: &mut R, buf: &mut [u8]) -> io::Result<usize>
+    ensures { IfOk result (λ n. n ≤ length buf.old) }
+{
+    let mut at: usize = 0;
+    while at < buf.len() {
+        let got = input.read(&mut buf[at..])?;
+        if got == 0 {
+            return Ok(at);
+        }
+        at += got;
+    }
+    Ok(at)
+}
+
 // One line: the count of its bytes in six hexadecimal digits and a space, then that many bytes.
-fn read_line(body: &mut [u8], bytes: &mut [u8], patterns: &mut [u64], numbers: &mut [f64]) -> Line {
+fn read_line<R: Read>(
+    input: &mut R,
+    body: &mut [u8],
+    bytes: &mut [u8],
+    patterns: &mut [u64],
+    numbers: &mut [f64],
+) -> io::Result<Line> {
     let mut head = [0u8; 7];
-    let got = io::read_full(STDIN_FILENO, &mut head);
+    let got = read_full(input, &mut head)?;
     if got < 7 {
-        return Line::End;
+        return Ok(Line::End);
     }
     let n = words::word_at(&head, 0).value as usize;
     if body.len() < n {
-        return Line::Call(false);
+        return Ok(Line::Call(false));
     }
-    let have = io::read_full(STDIN_FILENO, &mut body[0..n]);
+    let have = read_full(input, &mut body[0..n])?;
     if have < n {
-        return Line::Call(false);
+        return Ok(Line::Call(false));
     }
-    Line::Call(agrees(&body[0..n], bytes, patterns, numbers))
+    Ok(Line::Call(agrees(&body[0..n], bytes, patterns, numbers)))
 }
 
 // A proved loop has to end, so the lines are counted down from a number that no list has.
-fn run() -> Tally {
+fn run<R: Read>(input: &mut R) -> io::Result<Tally> {
     let mut space = line_space();
     let mut byte_room = byte_space();
     let mut pattern_room = pattern_space();
@@ -122,9 +145,9 @@ fn run() -> Tally {
     };
     let mut left: u64 = 0xffff_ffff;
     while 0 < left {
-        match read_line(body, bytes, patterns, numbers) {
+        match read_line(input, body, bytes, patterns, numbers)? {
             Line::End => {
-                return t;
+                return Ok(t);
             }
             Line::Call(agrees) => {
                 t = counted(t, agrees);
@@ -132,18 +155,16 @@ fn run() -> Tally {
         }
         left -= 1;
     }
-    t
+    Ok(t)
 }
 
-fn main() {
-    let t = run();
-    io::print_decimal(STDOUT_FILENO, t.agree);
-    io::write_all(STDOUT_FILENO, b" of ");
-    io::print_decimal(STDOUT_FILENO, t.read);
-    io::write_all(STDOUT_FILENO, b" calls agree\n");
-    if t.first != 0 {
-        io::write_all(STDOUT_FILENO, b"the first that does not is call ");
-        io::print_decimal(STDOUT_FILENO, t.first);
-        io::write_all(STDOUT_FILENO, b"\n");
+fn main(rt: HostRuntime) -> io::Result<()> {
+    let mut input = BufReader::new(rt.alloc(), rt.reader())?;
+    let t = run(&mut input)?;
+    let Tally { read, agree, first } = t;
+    println!(rt; "{agree} of {read} calls agree")?;
+    if first != 0 {
+        println!(rt; "the first that does not is call {first}")?;
     }
+    Ok(())
 }

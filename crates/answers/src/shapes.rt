@@ -41,7 +41,7 @@ pub fn second_shape(ins: &[u64; 16]) -> Shape {
 }
 
 // A flavor as words.
-#[derive(Drop)]
+#[derive(Clone, Copy)]
 pub struct Words {
     pub kind: u64,
     pub p: u64,

@@ -49,7 +49,7 @@ pub fn read_bytes(t: &[u8], at: usize, to: &mut [u8]) -> Read
 }
 
 // A shape, and where the next word begins.
-#[derive(Drop)]
+#[derive(Clone, Copy)]
 struct ShapeRead {
     shape: Shape,
     next: usize,
@@ -76,7 +76,7 @@ fn blank_shapes() -> [Shape; 64] {
 }
 
 // A record of shapes, and where the next word begins.
-#[derive(Drop)]
+#[derive(Clone, Copy)]
 pub struct ShapesRead {
     pub shapes: Shapes,
     pub next: usize,

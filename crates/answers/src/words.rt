@@ -2,7 +2,7 @@
 ghost use Rattle.std.specs.Prelude.{◌≤◌, length};
 
 // A word's value and where the next one begins.
-#[derive(Drop)]
+#[derive(Clone, Copy)]
 pub struct Word {
     pub value: u64,
     pub next: usize,
@@ -75,7 +75,7 @@ pub fn one_nan(bits: u64) -> u64 {
 }
 
 // A count and that many numbers, as far as there is room for them; where the next word begins.
-#[derive(Drop)]
+#[derive(Clone, Copy)]
 pub struct Read {
     pub count: usize,
     pub next: usize,

@@ -97,8 +97,8 @@ turns_step (suc d) g x h = rw (sub_one (suc d), sub_one d) (go x)
 
 -- The factors that it brings to the two products.
 factors : (x : Bool) (s t : ℤ) → factor true (not x) (s *ℤ t) (pos 1) *ℤ factor x true s (pos 1) ≡ t *ℤ s *ℤ when x s
-factors true s t = simp (product, Ring.mul-one)
-factors false s t = simp (product, Ring.mul-one)
+factors true s t = simp (product, Ring.mul_one)
+factors false s t = simp (product, Ring.mul_one)
 
 sign_all : (g d : ℕ) (x : Bool) → sign (g + d + cond x d 0) ≡ sign g *ℤ sign d *ℤ when x (sign d)
 unfolding sign pow one
@@ -164,7 +164,7 @@ module _ (d : ℕ) where
       ∙ around d (has m) ∙ ap (λ (n : ℕ). sign (turns_back d n)) (count_ones d m h)
     where
       twice : (a b c s t : ℤ) → a *ℤ a ≡ pos 1 → b *ℤ b ≡ pos 1 → c *ℤ c ≡ pos 1 → (a *ℤ b *ℤ c) *ℤ s *ℤ ((c *ℤ a *ℤ b) *ℤ t) ≡ s *ℤ t
-      twice a b c s t p q r = squares a b c s t ∙ rw (p, q, r, Ring.mul-one (s *ℤ t))
+      twice a b c s t p q r = squares a b c s t ∙ rw (p, q, r, Ring.mul_one (s *ℤ t))
         where
           squares : (a b c s t : ℤ) → (a *ℤ b *ℤ c) *ℤ s *ℤ ((c *ℤ a *ℤ b) *ℤ t) ≡ (s *ℤ t) *ℤ ((a *ℤ a) *ℤ ((b *ℤ b) *ℤ (c *ℤ c)))
           squares a b c s t = simp product

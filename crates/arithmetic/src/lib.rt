@@ -1,4 +1,6 @@
 // The arithmetic of multivectors: operators, duals, inverse, powers, equality and order.
+#![tactic(auto)]
+
 pub mod compare;
 pub mod dual;
 pub mod inverse;

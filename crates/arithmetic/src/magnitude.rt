@@ -16,7 +16,7 @@ use masks::outcome::{DONE, Real, value_refusal};
 use masks::shape::Shape;
 
 // The basis vectors that square to 0, and those that square to 0 or to -1, as masks.
-#[derive(Drop)]
+#[derive(Clone, Copy)]
 struct Squares {
     null: u16,
     lower: u16,

@@ -17,7 +17,7 @@ use product::mode::Mode;
 use product::products::multiply;
 
 // A sum or a difference.
-#[derive(Drop)]
+#[derive(Clone, Copy)]
 pub enum Sum {
     Plus,
     Minus,

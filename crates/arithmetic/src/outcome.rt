@@ -2,14 +2,14 @@
 use masks::shape::Shape;
 
 // A yes or no.
-#[derive(Drop)]
+#[derive(Clone, Copy)]
 pub struct YesNo {
     pub number: u8,
     pub yes: bool,
 }
 
 // How the left of two values compares with the right.
-#[derive(Drop)]
+#[derive(Clone, Copy)]
 pub enum Ordering {
     Less,
     Equal,
@@ -17,14 +17,14 @@ pub enum Ordering {
 }
 
 // An order.
-#[derive(Drop)]
+#[derive(Clone, Copy)]
 pub struct Ordered {
     pub number: u8,
     pub order: Ordering,
 }
 
 // A value whose scalar was taken: its coefficients are in the caller's output.
-#[derive(Drop)]
+#[derive(Clone, Copy)]
 pub struct Taken {
     pub number: u8,
     pub shape: Shape,

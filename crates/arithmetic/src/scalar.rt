@@ -7,13 +7,13 @@ use masks::outcome::{DONE, value_refusal};
 use masks::shape::Shape;
 
 // A complex number.
-#[derive(Drop)]
+#[derive(Clone, Copy)]
 pub struct Complex {
     pub re: f64,
     pub im: f64,
 }
 
-#[derive(Drop)]
+#[derive(Clone, Copy)]
 pub enum ScalarTest {
     Scalar(f64),
     Planar(Complex),
@@ -21,7 +21,7 @@ pub enum ScalarTest {
 }
 
 // What the test answers.
-#[derive(Drop)]
+#[derive(Clone, Copy)]
 pub struct Tested {
     pub number: u8,
     pub test: ScalarTest,

@@ -1,5 +1,7 @@
 // The C face: the calls that users need, on numbers, slices, and references to numbers and to shapes. A shape is six bytes: dims, kind, p,
 // n, z, mark (masks, shape_bytes). A refused call reports nothing and writes nothing.
+#![tactic(auto)]
+
 pub mod blades;
 pub mod build;
 pub mod compare;

@@ -15,7 +15,7 @@ use super::outcome::{
 };
 
 // How some numbers fill a value.
-#[derive(Drop)]
+#[derive(Clone, Copy)]
 pub enum Packing {
     Full,
     Half,

@@ -2,7 +2,7 @@
 ghost use Rattle.std.specs.Prelude.{◌≡◌};
 ghost use Rattle.masks.specs.Flavor.{metric_of, metric_value, null_flavor, added_dims};
 
-#[derive(Drop)]
+#[derive(Clone, Copy)]
 pub enum Flavor {
     Vanilla,
     Projective,
@@ -10,7 +10,7 @@ pub enum Flavor {
 }
 
 // What a basis vector squares to: -1, 0 or 1.
-#[derive(Drop)]
+#[derive(Clone, Copy)]
 pub enum Metric {
     Minus,
     Zero,

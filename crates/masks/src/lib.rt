@@ -1,4 +1,6 @@
 // Grades, masks, flavors and their text; shapes, their bytes and their changes; building and unpacking: the lowest layer of the chain.
+#![tactic(auto)]
+
 pub mod blade;
 pub mod build;
 pub mod flavor;

@@ -33,14 +33,14 @@ pub const NO_SPEC: u8 = 8;
 pub const MALFORMED: u8 = 9;
 
 // A value: its coefficients are in the caller's output.
-#[derive(Drop)]
+#[derive(Clone, Copy)]
 pub struct Answer {
     pub number: u8,
     pub shape: Shape,
 }
 
 // Two values: their coefficients are in the caller's two outputs.
-#[derive(Drop)]
+#[derive(Clone, Copy)]
 pub struct Answers {
     pub number: u8,
     pub left: Shape,
@@ -48,14 +48,14 @@ pub struct Answers {
 }
 
 // A count: of what is in the caller's output, of blades, or the size of a grade.
-#[derive(Drop)]
+#[derive(Clone, Copy)]
 pub struct Count {
     pub number: u8,
     pub count: usize,
 }
 
 // One number.
-#[derive(Drop)]
+#[derive(Clone, Copy)]
 pub struct Real {
     pub number: u8,
     pub value: f64,

@@ -10,7 +10,7 @@ use super::outcome::{
     Answer, Answers, DONE, MAX_DIMS, NO_ROOM, done, pair_refusal, refusal_of, refused, refused_pair,
 };
 
-#[derive(Drop)]
+#[derive(Clone, Copy)]
 pub struct Shape {
     pub dims: u8,
     pub flavor: Flavor,

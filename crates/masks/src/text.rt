@@ -9,14 +9,14 @@ use super::flavor::Flavor;
 use super::outcome::{Count, DONE, NO_FLAVOR, NO_ROOM, NO_SPEC};
 
 // A part as a u8.
-#[derive(Drop)]
+#[derive(Clone, Copy)]
 pub enum Octet {
     Is(u8),
     Missing,
 }
 
 // What a byte is tested for: that it is at most 127, a blank, a separator, or a byte of a part.
-#[derive(Drop)]
+#[derive(Clone, Copy)]
 enum ByteTest {
     Ascii,
     Blank,
@@ -25,7 +25,7 @@ enum ByteTest {
 }
 
 // A flavor that was read; Vanilla where it is refused.
-#[derive(Drop)]
+#[derive(Clone, Copy)]
 pub struct Read {
     pub number: u8,
     pub flavor: Flavor,

@@ -49,7 +49,7 @@ term_by_δ m x y e = go (nonzero m) refl e
     nought (negsuc n) h = cc
 
     go : (t : Bool) → nonzero m ≡ t → (e : Bool) → cond (t && e) (m *ℤ x *ℤ y) (pos 0) ≡ cond e (pos 1) (pos 0) *ℤ (m *ℤ x *ℤ y)
-    go true h true = sym (Ring.one-mul (m *ℤ x *ℤ y))
+    go true h true = sym (Ring.one_mul (m *ℤ x *ℤ y))
     go true h false = sym (zero-*ℤ (m *ℤ x *ℤ y))
     go false h e = sym (ap (λ z. cond e (pos 1) (pos 0) *ℤ z) (nought m h) ∙ *ℤ-zero (cond e (pos 1) (pos 0)))
 
@@ -65,7 +65,7 @@ unfolding δ
 sum_pick n c f l = sum_ext n _ _ (λ i _. go (eqb c i) (f i)) ∙ sum_at_lem n c f l
   where
     go : (t : Bool) (x : ℤ) → cond t x (pos 0) ≡ cond t (pos 1) (pos 0) *ℤ x
-    go true x = sym (Ring.one-mul x)
+    go true x = sym (Ring.one_mul x)
     go false x = sym (zero-*ℤ x)
 
 -- ---- for each place of b, one place of a

@@ -182,7 +182,7 @@ each_at t h mode =
     let q = both (t Left) (t Right && (t Inner && t Outer)) p.1 in
     let r = both (t Right) (t Inner && t Outer) q.1 in
     let s = both (t Inner) (t Outer) r.1 in
-    elim mode [ All ↦ p.0 | Left ↦ q.0 | Right ↦ r.0 | Inner ↦ s.0 | Outer ↦ s.1 ]
+    elim mode as (λ m. T (t m)) [ All ↦ p.0 | Left ↦ q.0 | Right ↦ r.0 | Inner ↦ s.0 | Outer ↦ s.1 ]
 
 -- The coefficients are multiples of 2 ^ -2, and those of a product of multiples of 2 ^ -4.
 is_tested : Flavor → Bool

@@ -46,13 +46,13 @@ ltb_other h n e = elim (dec_lt h n) [
 
 module _ (t : Bool) (r : List Float) (k : ℕ) (x : Float) where
   store_length : length (cond t (set r k x) r) ≡ length r
-  store_length = elim t [ true ↦ length-set r k x | false ↦ refl ]
+  store_length = elim t as (λ b. length (cond b (set r k x) r) ≡ length r) [ true ↦ length-set r k x | false ↦ refl ]
 
   store_here : k < length r → get_or (cond t (set r k x) r) k nan ≡ cond t x (get_or r k nan)
-  store_here h = elim t [ true ↦ get_or-set_same r k x nan h | false ↦ refl ]
+  store_here h = elim t as (λ b. get_or (cond b (set r k x) r) k nan ≡ cond b x (get_or r k nan)) [ true ↦ get_or-set_same r k x nan h | false ↦ refl ]
 
   store_elsewhere : (n : ℕ) → n ≢ k → get_or (cond t (set r k x) r) n nan ≡ get_or r n nan
-  store_elsewhere n h = elim t [ true ↦ get_or-set_other r k n x nan h | false ↦ refl ]
+  store_elsewhere n h = elim t as (λ b. get_or (cond b (set r k x) r) n nan ≡ get_or r n nan) [ true ↦ get_or-set_other r k n x nan h | false ↦ refl ]
 
 -- `taken t x` is the sum x with the term t.
 abbrev taken : Format → Term → Float → Float

@@ -1,5 +1,5 @@
 -- A product that is done is that of the conformed values, which have one number of dimensions, under the left one's flavor; they meet the premises of demand 3 that the given values meet. Assumes nothing.
-use mathlib.Core.Path.{◌≡◌, refl, sym, ap, ◌∙◌}
+use mathlib.Core.Path.{◌≡◌, sym, ap, ◌∙◌}
 use mathlib.Core.Bool.{Bool, true, false, cond}
 use mathlib.Core.List.{List}
 use mathlib.Core.Logic.{⊎_elim}

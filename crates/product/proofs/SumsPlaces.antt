@@ -12,7 +12,7 @@ use lib.Dec.{eqb, ltb}
 use lib.Ieee.{Float, nan, neg}
 use lib.ListN.{length, get_or, set, take, replicate, length-map, length-set, length-replicate}
 use lib.Seq.{get_or-set_same, get_or-set_other}
-use borrow.Author.Tests.{eqb-true, eqb-false, eq-eqb, ne_eqb}
+use borrow.Author.Tests.{eqb-true, eqb-false}
 use Rattle.masks.specs.Order.{up_from}
 use Rattle.masks.specs.Outcome.{nought}
 use Rattle.masks.proofs.OrderLaws.{up_length}

@@ -1,4 +1,6 @@
 // The five products of multivectors, their counts of contributing pairs, and snapping.
+#![tactic(auto)]
+
 mod metric;
 pub mod mode;
 pub mod outcome;

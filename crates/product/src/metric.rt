@@ -5,7 +5,7 @@ ghost use Rattle.product.specs.inner.Metric.{mask_of, squares_below, odd_below, 
 use masks::flavor::Flavor;
 
 // The basis vectors that square to 0, and those that square to -1, as masks.
-#[derive(Drop)]
+#[derive(Clone, Copy)]
 pub struct Squares {
     pub null: u32,
     pub minus: u32,
@@ -13,7 +13,7 @@ pub struct Squares {
 
 // A blade of the right factor: its mask, the vectors that it has and that square to 0, and those of the left factor that
 // change the sign when they meet it.
-#[derive(Drop)]
+#[derive(Clone, Copy)]
 pub struct Blade {
     pub mask: u32,
     pub null: u32,

@@ -5,7 +5,7 @@ ghost use Rattle.product.specs.Mode.{flavor_for};
 use masks::flavor::{Flavor, null_flavor};
 
 // Which pairs of blades a product takes: all; a within b; b within a; either; all, under `Flavor::NULL`.
-#[derive(Drop)]
+#[derive(Clone, Copy)]
 pub enum Mode {
     All,
     Left,

@@ -7,7 +7,7 @@ use masks::outcome::shape_of;
 use masks::shape::Shape;
 
 // A value with the number of its contributing pairs: its coefficients are in the caller's output.
-#[derive(Drop)]
+#[derive(Clone, Copy)]
 pub struct Product {
     pub number: u8,
     pub shape: Shape,

@@ -14,7 +14,7 @@ pub const MAX_STEPS: usize = 200;
 pub const BAD_LOG: u8 = 10;
 
 // `*` on the right or on the left by the value at an index, reverse, change dimensions, halt if equal to the value at an index; or no known kind.
-#[derive(Drop)]
+#[derive(Clone, Copy)]
 pub enum Step {
     Right(u8),
     Left(u8),

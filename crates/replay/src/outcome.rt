@@ -7,7 +7,7 @@ use masks::outcome::{DONE, shape_of};
 use masks::shape::Shape;
 
 // The pose is in the caller's output; `steps` were carried out, and `stopped` is the refusal of the step after them, or 0.
-#[derive(Drop)]
+#[derive(Clone, Copy)]
 pub struct Replay {
     pub number: u8,
     pub shape: Shape,

@@ -13,7 +13,7 @@ use masks::outcome::Answer;
 use masks::shape::Shape;
 
 // A step that was tried: what it answers, and whether it is a halting step that fires.
-#[derive(Drop)]
+#[derive(Clone, Copy)]
 pub struct Tried {
     pub answer: Answer,
     pub halts: bool,

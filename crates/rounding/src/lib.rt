@@ -1,1 +1,2 @@
 // Mathematics alone: the definitions are in specs/, the laws in proofs/.
+#![tactic(auto)]

@@ -1,4 +1,6 @@
 // The rig sheet, read and written: the top of the chain.
+#![tactic(auto)]
+
 mod bytes;
 pub mod patterns;
 pub mod read;

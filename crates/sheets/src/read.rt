@@ -10,7 +10,7 @@ use super::shapes::{MAX_COEFFICIENTS, MAX_SHAPES, Shapes, blade_total, blank_sha
 use masks::outcome::{DONE, MALFORMED, MAX_DIMS, NO_ROOM};
 
 // A sheet: its patterns are in the caller's output.
-#[derive(Drop)]
+#[derive(Clone, Copy)]
 pub struct SheetRead {
     pub number: u8,
     pub shapes: Shapes,

@@ -19,7 +19,7 @@ pub const MAX_SHAPES: usize = 64;
 pub const MAX_COEFFICIENTS: usize = 4096;
 
 // The first `count` of those that are held are listed.
-#[derive(Drop)]
+#[derive(Clone, Copy)]
 pub struct Shapes {
     pub count: usize,
     pub held: [Shape; 64],

@@ -8,7 +8,7 @@ use masks::outcome::{DONE, TOO_MANY_DIMS, WRONG_COUNT, shape_of};
 use masks::shape::Shape;
 
 // Where a value of a sheet is: its shape, and the place at which its patterns start.
-#[derive(Drop)]
+#[derive(Clone, Copy)]
 pub struct Placed {
     pub number: u8,
     pub shape: Shape,

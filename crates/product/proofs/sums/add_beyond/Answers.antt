@@ -1,0 +1,43 @@
+use mathlib.Core.Path.{refl, sym, ◌∙◌}
+use Prim.Native.Nat.{◌-◌}
+use native.Mathlib.Omega.{arith}
+use lib.Bits.{bit_and}
+use lib.ListN.{length}
+use Rattle.masks.proofs.OrderLaws.{blades_le}
+use Rattle.product.specs.inner.Sums.{subset_from, beyond}
+use Rattle.product.proofs.Subsets.{and_twice}
+use Rattle.product.proofs.SumsPairs.{pairs_ext, pairs_none}
+use Rattle.product.proofs.SumsTests.{free_of, free_lt, free_add, free_apart, beyond_none, beyond_test}
+use Rattle.product.proofs.sums.add_beyond.Goals as goal
+
+pub overflow_cast-n : goal.overflow_cast-n
+overflow_cast-n c = omega (arith, blades_le c.args.dims c.requires.0)
+
+pub overflow_sub-n : goal.overflow_sub-n
+overflow_sub-n c = omega (arith, free_lt c.args.dims (length c.args.acc.now) c.requires.3 c.args.blade.mask c.requires.1)
+
+pub add_subsets-requires : goal.add_subsets-requires
+add_subsets-requires c =
+    let d = c.args.dims in
+    let n = length c.args.acc.now in
+    let b = c.args.blade.mask in
+    let free = free_of d n c.requires.3 b c.requires.1 in
+    record { dims_bound = c.requires; free_bound = (free_add d n c.requires.3 b c.requires.1, free_apart d n c.requires.3 b c.requires.1, and_twice (n - free) free) }
+
+pub returns-then-free-ne0 : goal.returns-then-free-ne0
+returns-then-free-ne0 c =
+    let a = c.args in
+    let b = a.blade.mask in
+    let n = length a.acc.now in
+    let free = free_of a.dims n c.requires.3 b c.requires.1 in
+    let from = bit_and (n - free) free in
+    c.add_subsets.ensures
+    ∙ pairs_ext a.blade a.y a.am.now a.dims c.requires.1 a.acc.now c.requires.3 (subset_from b free from) (beyond b)
+    (beyond_test a.dims n c.requires.3 b c.requires.1 c.if-free-ne0.true from refl)
+
+pub returns-else-free-ne0 : goal.returns-else-free-ne0
+returns-else-free-ne0 c =
+    let a = c.args in
+    let b = a.blade.mask in
+    sym (pairs_none a.blade a.y a.am.now a.dims c.requires.1 a.acc.now c.requires.3 (beyond b)
+    (beyond_none a.dims (length a.acc.now) c.requires.3 b c.requires.1 c.if-free-ne0.false))
