@@ -1,6 +1,6 @@
 -- The order that is given for some dimensions, and what is reported of it where the outputs have room and where not. Assumes nothing.
 use mathlib.Core.Path.{◌≡◌, refl, sym, ap, ◌∙◌}
-use mathlib.Core.List.{List, [], ◌∷◌, map}
+use mathlib.Core.List.{List, [], map}
 use Prim.Native.Nat.{ℕ, zero, suc, ◌^◌, ◌≤◌, ◌<◌}
 use native.Mathlib.Omega.{arith}
 use lib.ListN.{length, length-map, take}
@@ -13,7 +13,6 @@ use Rattle.masks.specs.Order.{order, place, up_from, places_of, held, order_test
 use Rattle.masks.specs.Outcome.{refusal, too_many, no_room, unless, laid}
 use Rattle.masks.proofs.OrderLaws.{blades_le, blades_counted, order_given_lem, take_masks, up_length, masks_length, places_length}
 use Rattle.masks.proofs.OutcomeLaws.{past, refused_already, refused_first, refused_later, unless_number}
-use Rattle.exports.specs.Reports.{reported}
 use Rattle.exports.specs.Order.{order_of_tests, ReportsOrderOf}
 use Rattle.exports.proofs.ReportsLaws.{kept_reported, done_reported}
 

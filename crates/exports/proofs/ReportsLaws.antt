@@ -13,7 +13,7 @@ use Rattle.product.specs.Products.{Counted, product_of, GivesProduct}
 use Rattle.arithmetic.specs.declared.outcome.Taken.{Taken}
 use Rattle.arithmetic.specs.Kept.{Halves, taken_of, GivesTaken}
 use Rattle.replay.specs.declared.outcome.Replay.{Replay}
-use Rattle.replay.specs.Replay.{Replayed, replay_of, Replays}
+use Rattle.replay.specs.Replay.{Replayed, Replays}
 use Rattle.exports.specs.Reports.{reported, Reports, ReportsAnswer, ReportsAnswers, ReportsCount, ReportsPairs, ReportsScalar, ReportsSteps, ReportsValue, ReportsPair, ReportsProduct, ReportsTaken, ReportsList, ReportsReplay}
 
 -- ---- references

@@ -1,5 +1,5 @@
 -- In the list of tests of each call on sheets the numbers rise, so that the lowest that applies is given (`refused_lowest` of masks); the reader gives 9 before 3. Assumes nothing.
-use mathlib.Core.Path.{◌≡◌, refl}
+use mathlib.Core.Path.{◌≡◌}
 use mathlib.Core.Bool.{false}
 use mathlib.Core.List.{List}
 use Prim.Native.Nat.{ℕ}

@@ -2,7 +2,7 @@
 use mathlib.Core.Path.{◌≡◌, refl, sym, ap, ap₂, ◌∙◌}
 use mathlib.Core.Bool.{Bool, true, false, not, ◌&&◌, ◌||◌, false≢true}
 use mathlib.Core.List.{List, [], ◌∷◌, ◌++◌, map}
-use Prim.Native.Nat.{ℕ, zero, suc, ◌+◌, ◌*◌, ◌/◌, ◌^◌, ◌≤◌, ◌<◌, suc-le-suc}
+use Prim.Native.Nat.{ℕ, zero, suc, ◌+◌, ◌*◌, ◌^◌, ◌≤◌, ◌<◌, suc-le-suc}
 use native.Mathlib.Nat.{le_of_suc-le-suc, not-suc-le-zero, zero-lt-suc}
 use native.Mathlib.Omega.{arith}
 use lib.Dec.{ltb}
@@ -20,7 +20,7 @@ use Rattle.sheets.specs.Bytes.{little_endian, from_little_endian, section, parts
 use Rattle.sheets.specs.Format.{Sheet, shape_in, pattern_bytes, sheet_bytes, blade_total, any_above_nine}
 use Rattle.sheets.specs.Read.{said, is_sheet, is_sheet_bytes, ReadOutcome, refused_sheet, a_sheet, read_sheet, checked, Reads}
 use Rattle.sheets.specs.inner.Checks.{is_shape, are_shapes}
-use Rattle.sheets.proofs.BytesLaws.{AreBytes, little_endian-number, take_bytes, drop_bytes, items_section, parts_length, get_d-parts, parts_take, all_bytes-parts}
+use Rattle.sheets.proofs.BytesLaws.{AreBytes, little_endian-number, take_bytes, drop_bytes, items_section, parts_length, get_d-parts, all_bytes-parts}
 use Rattle.sheets.proofs.FormatLaws.{five_length, five_back, sheet_bytes-length, same_true, same_refl, dims_at, sheet_within, within_sheet}
 
 -- how many shapes and coefficients bytes say that they have

@@ -2,7 +2,7 @@
 use mathlib.Core.Path.{◌≡◌, refl, sym, ap, ap₂, ◌∙◌}
 use mathlib.Core.Bool.{true, ◌&&◌}
 use mathlib.Core.Logic.{⊎_elim}
-use mathlib.Core.List.{List, [], ◌∷◌, ◌++◌, map, append-nil}
+use mathlib.Core.List.{List, [], map, append-nil}
 use Prim.Native.Nat.{ℕ, zero, suc, ◌+◌, ◌*◌, ◌/◌, ◌^◌, ◌≤◌, ◌<◌}
 use native.Mathlib.Nat.{zero-lt-suc, le_trans, one-le-pow, pow-le-pow_right}
 use native.Mathlib.Omega.{arith}
@@ -21,7 +21,7 @@ use Rattle.masks.proofs.ShapeBytesLaws.{shape_bytes-length, shape_back}
 use Rattle.sheets.specs.declared.shapes.Shapes.{Shapes}
 use Rattle.sheets.specs.Bytes.{from_little_endian, all_bytes, section, parts, items_in, after_section}
 use Rattle.sheets.specs.Format.{Sheet, shape_in, pattern_bytes, sheet_bytes, blade_total}
-use Rattle.sheets.specs.Shapes.{shapes_of, listed_shapes, said_shapes}
+use Rattle.sheets.specs.Shapes.{shapes_of, said_shapes}
 use Rattle.sheets.specs.Read.{said, is_sheet, is_sheet_bytes, malformed, ReadOutcome, read_sheet_tests, read_sheet, checked, a_sheet, refused_sheet, Reads}
 use Rattle.sheets.specs.Write.{sheet_of, write_sheet_tests, write_sheet}
 use Rattle.sheets.proofs.BytesLaws.{AreBytes, little_endian-length, number-little_endian, number_lt, take_bytes, drop_bytes, all_bytes-length, parts-all_bytes, items_section, after_section_lem}

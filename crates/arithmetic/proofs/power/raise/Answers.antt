@@ -1,0 +1,77 @@
+use mathlib.Core.Path.{◌≡◌, sym}
+use mathlib.Core.List.{List}
+use Prim.Native.Nat.{ℕ, ◌+◌, ◌^◌, ◌≤◌}
+use native.Mathlib.Omega.{arith}
+use borrow.Author.Tests.{eq-eqb, ne_eqb}
+use lib.Ieee.{Float}
+use Rattle.masks.specs.declared.shape.Shape.{Shape}
+use Rattle.masks.specs.Flavor.{added_dims}
+use Rattle.masks.specs.Outcome.{laid}
+use Rattle.arithmetic.specs.Inverse.{square_of}
+use Rattle.arithmetic.specs.Power.{is_direct, power_dims, by_digits, raised_to}
+use Rattle.arithmetic.proofs.PowerLaws.{copied_front}
+use Rattle.arithmetic.proofs.power.raise.Goals as goal
+
+module _ (s : Shape) (p : ℕ) (x : List Float) where
+  module _ (e : p ≡ 1) where
+    dims_one : power_dims s p ≡ s.dims
+    unfolding power_dims is_direct
+    dims_one = rw (eq-eqb p 1 e)
+
+    raised_one : raised_to s p x ≡ x
+    unfolding raised_to
+    raised_one = rw (eq-eqb p 1 e)
+
+  module _ (h : p ≡ 1 → ⊥) where
+    module _ (e : p ≡ 2) where
+      dims_two : power_dims s p ≡ s.dims
+      unfolding power_dims is_direct
+      dims_two = rw (ne_eqb p 1 h, eq-eqb p 2 e)
+
+      raised_two : raised_to s p x ≡ square_of s x
+      unfolding raised_to
+      raised_two = rw (ne_eqb p 1 h, eq-eqb p 2 e)
+
+    module _ (k : p ≡ 2 → ⊥) where
+      dims_other : power_dims s p ≡ s.dims + added_dims s.flavor
+      unfolding power_dims is_direct
+      dims_other = rw (ne_eqb p 1 h, ne_eqb p 2 k)
+
+      raised_other : raised_to s p x ≡ by_digits s p x
+      unfolding raised_to
+      raised_other = rw (ne_eqb p 1 h, ne_eqb p 2 k)
+
+-- Room for a power of n dimensions is room for one of m, which are as many.
+room : {m n out : ℕ} → n ≡ m → 2 ^ n ≤ out → 2 ^ m ≤ out
+room e h = rw (sym e) h
+
+laid_as : (out : List Float) {after xs ys : List Float} → xs ≡ ys → after ≡ laid ys out → after ≡ laid xs out
+laid_as out e h = rw e h
+
+pub returns-then-power-eq1 : goal.returns-then-power-eq1
+returns-then-power-eq1 c =
+    let e = c.if-power-eq1.true in
+    let a = c.args in
+    laid_as a.out.now (raised_one a.shape a.power a.x.now e)
+    (copied_front a.shape a.x.now a.out.now _ c.set_dims.result
+    (record { small = c.requires.power_bound.1; counted = c.requires.x_len.0; roomy = room (dims_one a.shape a.power a.x.now e) c.requires.x_len.1 }) c.set_dims.ensures)
+
+pub put_square-requires : goal.put_square-requires
+put_square-requires c =
+    let d = dims_two c.args.shape c.args.power c.args.x.now c.if-power-eq1.false c.if-power-eq2.true in
+    record { in_order = c.requires.in_order; dims_bound = (c.requires.power_bound.1, c.requires.x_len.0, room d c.requires.x_len.1) }
+
+pub returns-then-power-eq2 : goal.returns-then-power-eq2
+returns-then-power-eq2 c =
+    let a = c.args in
+    laid_as a.out.now (raised_two a.shape a.power a.x.now c.if-power-eq1.false c.if-power-eq2.true) c.put_square.ensures
+
+pub raise_by_digits-requires : goal.raise_by_digits-requires
+raise_by_digits-requires c =
+    let d = dims_other c.args.shape c.args.power c.args.x.now c.if-power-eq1.false c.if-power-eq2.false in
+    record { in_order = c.requires.in_order; flavor_bound = (omega (arith, d, c.requires.power_bound.0), c.requires.power_bound.2); x_len = (c.requires.x_len.0, room d c.requires.x_len.1) }
+
+pub returns : goal.returns
+returns c =
+    let a = c.args in
+    laid_as a.out.now (raised_other a.shape a.power a.x.now c.if-power-eq1.false c.if-power-eq2.false) c.raise_by_digits.ensures

@@ -1,0 +1,257 @@
+use mathlib.Core.Path.{◌≡◌, refl, sym, ap, subst, ◌∙◌}
+use mathlib.Core.Bool.{cond}
+use mathlib.Core.List.{List, [], ◌∷◌}
+use Prim.Native.Nat.{ℕ, ◌+◌, ◌-◌, ◌^◌, ◌/◌, ◌%◌, ◌≤◌, ◌<◌}
+use native.Mathlib.Omega.{arith}
+use borrow.Author.Tests.{eq-eqb, ne_eqb}
+use lib.Dec.{eqb}
+use lib.Ieee.{Float, binary64, of_bits, of_fields}
+use lib.ListN.{length, take}
+use lib.Pow.{pow_pos, pow_mono}
+use lib.Seq.{length-take-le}
+use Rattle.masks.specs.declared.outcome.Answer.{Answer}
+use Rattle.masks.specs.declared.shape.Shape.{Shape}
+use Rattle.masks.specs.Build.{at_grade, scalar}
+use Rattle.masks.specs.Flavor.{added_dims}
+use Rattle.masks.specs.Order.{start}
+use Rattle.masks.specs.Outcome.{Outcome, Gives, value, laid}
+use Rattle.masks.specs.Shape.{with_dims}
+use Rattle.masks.proofs.BuildLaws.{length_grade_set, one_built}
+use Rattle.masks.proofs.ListLaws.{laid_length, take_laid}
+use Rattle.product.proofs.ListLaws.{laid_over}
+use Rattle.masks.proofs.OrderLaws.{blades_le}
+use Rattle.product.specs.declared.mode.Mode.TheVariants.{All}
+use Rattle.product.proofs.PairwiseLaws.{product_length}
+use Rattle.arithmetic.specs.inner.Given.{InOrder}
+use Rattle.arithmetic.specs.Scale.{unity}
+use Rattle.arithmetic.specs.Operators.{multiplication}
+use Rattle.arithmetic.specs.Dual.{ample}
+use Rattle.arithmetic.specs.Inverse.{square_of}
+use Rattle.arithmetic.specs.Power.{raised, by_digits}
+use Rattle.arithmetic.proofs.PowerLaws.{raised_none, raised_next, copied_front, grown_length}
+use Rattle.arithmetic.proofs.power.raise_in.Invariants.{Left, kept}
+use Rattle.arithmetic.proofs.power.raise_in.Goals.{At-loop-p, Joined-p-eq1, then-p-eq1, else-p-eq1}
+use Rattle.arithmetic.proofs.power.raise_in.Goals as goal
+
+-- What was laid over an output is laid over itself.
+over_itself : (xs out after : List Float) → after ≡ laid xs out → after ≡ laid xs after
+over_itself xs out after e = e ∙ sym (laid_over xs xs out refl) ∙ ap (laid xs) (sym e)
+
+-- What is laid over a value as long is laid over what was there before.
+over_again : (xs ys out mid after : List Float) → length xs ≡ length ys → mid ≡ laid ys out → after ≡ laid xs mid → after ≡ laid xs out
+over_again xs ys out mid after l e q = q ∙ ap (laid xs) e ∙ laid_over xs ys out l
+
+long_as : (xs out after : List Float) → length xs ≤ length out → after ≡ laid xs out → length after ≡ length out
+long_as xs out after l e = ap length e ∙ laid_length xs out l
+
+-- The shape of the value, and the value that the turns start from.
+abbrev grown : Shape → Shape
+grown s = with_dims s (s.dims + added_dims s.flavor)
+
+abbrev one : Shape → List Float
+one s = (scalar s.dims unity s.flavor ample).coefs
+
+module _ {s : Shape} {power : ℕ} {x out₀ base₀ out base : List Float} where
+  module _ {f : List Float → List Float} {p : ℕ} (t : Left s power x out₀ base₀ f out base p) where
+    bottom : (j : ℕ) → j ≡ 2 ^ s.dims → take j base ≡ t.b
+    bottom j e = ap (take j) t.at_base ∙ take_laid j t.b base₀ (t.wide ∙ sym e)
+
+  -- ---- a digit
+
+  module _ {p : ℕ} (t : Left s power x out₀ base₀ kept out base p) where
+    front : (g : Shape) → g ≡ grown s → take (2 ^ g.dims) out ≡ t.r
+    front g e = ap (λ (u : Shape). take (2 ^ u.dims) out) e ∙ ap (take (2 ^ (grown s).dims)) t.at_out ∙ take_laid (2 ^ (grown s).dims) t.r out₀ t.long
+
+    -- The value times the base.
+    abbrev times : List Float
+    times = (multiplication (grown s) s t.r t.b ample).coefs
+
+    module _ (i : 0 < p) (out' : List Float) where
+      taken : (r' : List Float) → r' ≡ cond (eqb (p % 2) 1) times t.r → length r' ≡ 2 ^ (grown s).dims → out' ≡ laid r' out₀ → Left s power x out₀ base₀ (square_of s) out' base (p / 2)
+      taken r' e l q =
+          let j = raised_next s t.k p t.r t.b i t.few in
+          record {
+            k = j.0;
+            r = r';
+            b = t.b;
+            few = j.1;
+            long = l;
+            wide = t.wide;
+            at_out = q;
+            at_base = t.at_base;
+            same = ap (λ (ys : List Float). raised s j.0 (p / 2) ys (square_of s t.b)) e ∙ sym j.2 ∙ t.same;
+          }
+
+      odd : (g : Shape) (j : ℕ) → (grown s).dims ≤ 9 → g ≡ grown s → j ≡ 2 ^ s.dims → p % 2 ≡ 1
+          → out' ≡ laid (multiplication g s (take (2 ^ g.dims) out) (take j base) 512).coefs out → Left s power x out₀ base₀ (square_of s) out' base (p / 2)
+      odd g j h e f d q =
+          let l = grown_length (grown s) s t.r t.b refl (omega arith) h t.long t.wide in
+          taken times (rw (eq-eqb (p % 2) 1 d)) l
+          (over_again times t.r out₀ out out' (l ∙ sym t.long) t.at_out (q ∙ (rw (front g e, bottom t j f, e))))
+
+      even : (p % 2 ≡ 1 → ⊥) → out' ≡ out → Left s power x out₀ base₀ (square_of s) out' base (p / 2)
+      even d q = taken t.r (rw (ne_eqb (p % 2) 1 d)) t.long (q ∙ t.at_out)
+
+  -- ---- the base
+
+  module _ {p : ℕ} (m : Left s power x out₀ base₀ (square_of s) out base p) where
+    -- It is squared for the next digit.
+    goes_on : {base' : List Float} (j : ℕ) → j ≡ 2 ^ s.dims → base' ≡ laid (square_of s (take j base)) base → Left s power x out₀ base₀ kept out base' p
+    goes_on {base'} j e q =
+        let l = product_length All s.flavor s.dims binary64 m.b m.b in
+        record {
+          k = m.k;
+          r = m.r;
+          b = square_of s m.b;
+          few = m.few;
+          long = m.long;
+          wide = l;
+          at_out = m.at_out;
+          at_base = over_again (square_of s m.b) m.b base₀ base base' (l ∙ sym m.wide) m.at_base (q ∙ ap (λ (ys : List Float). laid (square_of s ys) base) (bottom m j e));
+          same = m.same;
+        }
+
+    -- Where no digit is left it does not matter.
+    stops : p ≤ 0 → Left s power x out₀ base₀ kept out base p
+    stops i =
+        let z : p ≡ 0 = omega arith in
+        let none : (ys : List Float) → raised s m.k p m.r ys ≡ m.r = λ ys. ap (λ (q : ℕ). raised s m.k q m.r ys) z ∙ raised_none s m.k m.r ys in
+        record {
+          k = m.k;
+          r = m.r;
+          b = m.b;
+          few = m.few;
+          long = m.long;
+          wide = m.wide;
+          at_out = m.at_out;
+          at_base = m.at_base;
+          same = none m.b ∙ sym (none (square_of s m.b)) ∙ m.same;
+        }
+
+-- ---- the start and the end
+module _ (s : Shape) (h : (grown s).dims ≤ 9) where
+  built : (room : ℕ) → 2 ^ (grown s).dims ≤ room → scalar s.dims unity s.flavor room ≡ value (grown s) (at_grade (grown s).dims 0 (unity ∷ []))
+  unfolding scalar
+  built room l = one_built (grown s).dims 0 (unity ∷ []) s.flavor room h l
+
+  one_length : length (one s) ≡ 2 ^ (grown s).dims
+  unfolding start
+  one_length =
+      let l : 0 + 1 ≤ 2 ^ (grown s).dims = omega (arith, pow_pos (grown s).dims) in
+      ap (λ (o : Outcome). length o.coefs) (built ample (blades_le _ h)) ∙ length_grade_set (grown s).dims 0 (unity ∷ []) l
+
+  module _ {out after : List Float} {q : Answer} (l : 2 ^ (grown s).dims ≤ length out) (g : Gives (scalar s.dims unity s.flavor (length out)) q out after) where
+    begun_shape : q.shape ≡ grown s
+    begun_shape = ap (λ (a : Answer). a.shape) g.answered ∙ ap (λ (o : Outcome). o.shape) (built (length out) l)
+
+    begun : after ≡ laid (one s) out
+    begun = g.left ∙ ap (λ (o : Outcome). laid o.coefs out) (built (length out) l ∙ sym (built ample (blades_le _ h)))
+
+  module _ (power : ℕ) (x out out₀ : List Float) (e : out₀ ≡ laid (one s) out) where
+    begins : (buf base₀ : List Float) → power < 2 ^ 31 → length x ≡ 2 ^ s.dims → base₀ ≡ laid x buf → Left s power x out₀ base₀ kept out₀ base₀ power
+    unfolding by_digits
+    begins buf base₀ f w q =
+        record {
+          k = 31;
+          r = one s;
+          b = x;
+          few = f;
+          long = one_length;
+          wide = w;
+          at_out = over_itself (one s) out out₀ e;
+          at_base = over_itself x buf base₀ q;
+          same = refl;
+        }
+
+    ends : (base₀ after base : List Float) (p : ℕ) → p ≤ 0 → Left s power x out₀ base₀ kept after base p → after ≡ laid (by_digits s power x) out
+    ends base₀ after base p i t =
+        let z : p ≡ 0 = omega arith in
+        over_again t.r (one s) out out₀ after (t.long ∙ sym one_length) e t.at_out
+        ∙ ap (λ (ys : List Float). laid ys out) (sym (ap (λ (q : ℕ). raised s t.k q t.r t.b) z ∙ raised_none s t.k t.r t.b) ∙ t.same)
+
+-- The shape that the call before the loop gives.
+shape_is : (c : At-loop-p) → c.scalar-start.result.shape ≡ grown c.args.shape
+unfolding of_bits of_fields
+shape_is c = begun_shape c.args.shape c.requires.flavor_bound.0 c.requires.x_len.1 c.scalar-start.ensures
+
+-- Room for the value's dimensions is room for the base's.
+base_room : (d n : ℕ) → d ≤ n → 2 ^ d ≤ 2 ^ n
+base_room d n h = pow_mono h
+
+-- Room for 2 ^ n numbers in an array that stays as long.
+room : {m n j k : ℕ} → m ≡ n → 2 ^ n ≤ j → k ≡ j → 2 ^ m ≤ k
+room e h q = rw (e, q) h
+
+-- After the test of a digit.
+digit : (c : Joined-p-eq1) → c.scalar-start.result.shape ≡ grown c.args.shape
+    → Left c.args.shape c.args.power c.args.x.now c.scalar-start.new.out c.set_dims.new.out (square_of c.args.shape) c.if-p-eq1.out c.loop-p.base (c.loop-p.p / 2)
+digit c g =
+    let t = c.loop-p.invariant in
+    elim c.if-p-eq1.branch [
+    | then-p-eq1 w ↦
+        odd t c.loop-p-test.true c.if-p-eq1.out c.scalar-start.result.shape (length c.args.x.now - 0) c.requires.flavor_bound.0 g
+        (omega (arith, c.requires.x_len.0)) w.if-p-eq1.true (w.out-is ∙ w.mul_front.ensures)
+    | else-p-eq1 w ↦ even t c.loop-p-test.true c.if-p-eq1.out w.if-p-eq1.false w.out-is
+    ]
+
+-- Half of a number above zero is less.
+less : (p : ℕ) → 0 < p → p / 2 < p
+less p h = omega arith
+
+pub loop-p-init : goal.loop-p-init
+unfolding of_bits of_fields
+loop-p-init c =
+    let s = c.args.shape in
+    let p = c.requires in
+    let x = c.args.x.now in
+    let small : s.dims ≤ 9 = omega (arith, p.flavor_bound.0) in
+    let base_is : c.set_dims.new.out ≡ laid x c.args.base.now = copied_front s x c.args.base.now c.set_dims.new.out c.set_dims.result (record { small = small; counted = p.x_len.0; roomy = omega (arith, p.x_len.0, p.flavor_bound.2) }) c.set_dims.ensures in
+    begins s p.flavor_bound.0 c.args.power x c.args.out.now c.scalar-start.new.out (begun s p.flavor_bound.0 p.x_len.1 c.scalar-start.ensures) c.args.base.now c.set_dims.new.out p.flavor_bound.1 p.x_len.0 base_is
+
+pub slice_bounds-mul_front-end : goal.slice_bounds-mul_front-end
+slice_bounds-mul_front-end c = omega (arith, c.requires.flavor_bound.2, c.loop-p.auto.base, c.set_dims.auto.out)
+
+pub mul_front-requires : goal.mul_front-requires
+mul_front-requires c =
+    let p = c.requires in
+    let g = shape_is (goal.at.mul_front-requires c).At-loop-p in
+    let d = ap (λ (u : Shape). u.dims) g in
+    let e : length c.args.x.now - 0 ≤ length c.loop-p.base = omega (arith, p.flavor_bound.2, c.loop-p.auto.base, c.set_dims.auto.out) in
+    record {
+      in_order = subst (λ (n : ℕ). InOrder c.args.wide.now n) (sym d) p.in_order.1;
+      grown_value = (g, omega (arith, d, p.flavor_bound.0));
+      x_len = (length-take-le _ c.loop-p.base e ∙ omega (arith, p.x_len.0), room d p.x_len.1 (c.loop-p.auto.out ∙ c.scalar-start.auto.out), room d p.flavor_bound.3 c.loop-p.auto.next);
+    }
+
+pub square_front-requires : goal.square_front-requires
+square_front-requires c =
+    let p = c.requires in
+    let m = base_room c.args.shape.dims (grown c.args.shape).dims (omega arith) in
+    record {
+      in_order = p.in_order.0;
+      dims_bound = (omega (arith, p.flavor_bound.0), p.x_len.0, omega (arith, p.flavor_bound.2, c.loop-p.auto.base, c.set_dims.auto.out), omega (arith, m, p.x_len.0, p.flavor_bound.3, c.if-p-eq1.auto.next, c.loop-p.auto.next));
+    }
+
+pub loop-p-smaller-then-p-gt0 : goal.loop-p-smaller-then-p-gt0
+loop-p-smaller-then-p-gt0 c = less _ c.loop-p-test.true
+
+pub loop-p-preserved-then-p-gt0 : goal.loop-p-preserved-then-p-gt0
+loop-p-preserved-then-p-gt0 c =
+    let a = goal.at.loop-p-preserved-then-p-gt0 c in
+    let q = c.square_front in
+    goes_on (digit a.Joined-p-eq1 (shape_is a.At-loop-p)) (length c.args.x.now) c.requires.x_len.0 q.ensures
+
+pub loop-p-smaller : goal.loop-p-smaller
+loop-p-smaller c = less _ c.loop-p-test.true
+
+pub loop-p-preserved : goal.loop-p-preserved
+loop-p-preserved c =
+    let a = goal.at.loop-p-preserved c in
+    stops (digit a.Joined-p-eq1 (shape_is a.At-loop-p)) c.if-p-gt0.false
+
+pub returns : goal.returns
+unfolding of_bits of_fields
+returns c =
+    let s = c.args.shape in
+    let p = c.requires in
+    ends s p.flavor_bound.0 c.args.power c.args.x.now c.args.out.now c.scalar-start.new.out (begun s p.flavor_bound.0 p.x_len.1 c.scalar-start.ensures) _ _ _ _ c.loop-p-test.false c.loop-p.invariant

@@ -1,0 +1,11 @@
+use mathlib.Core.Path.{ap₂}
+use lib.ListN.{length}
+use Rattle.masks.specs.declared.shape.Shape.{Shape}
+use Rattle.product.specs.Products.{left_contraction}
+use Rattle.exports.proofs.ReportsLaws.{product_reported}
+use Rattle.exports.proofs.products.thresholm_left_contraction.Goals as goal
+
+pub returns : goal.returns
+returns c =
+    let given = c.args in
+    product_reported (ap₂ (λ (s : Shape) (t : Shape). left_contraction s t given.a.now given.b.now (length given.out.now)) c.shape_from.ensures c.shape_from-2.ensures) c.left_contraction-product.ensures c.report_product.ensures

@@ -1,0 +1,11 @@
+use mathlib.Core.Path.{ap}
+use lib.ListN.{length}
+use Rattle.masks.specs.declared.shape.Shape.{Shape}
+use Rattle.masks.specs.Unpack.{unpack_half}
+use Rattle.exports.proofs.ReportsLaws.{list_reported}
+use Rattle.exports.proofs.unpack.thresholm_unpack_odd.Goals as goal
+
+pub returns : goal.returns
+returns c =
+    let given = c.args in
+    list_reported (ap (λ (s : Shape). unpack_half 1 s given.d given.a.now (length given.out.now)) c.shape_from.ensures) c.unpack_odd.ensures c.report_count.ensures

@@ -1,0 +1,11 @@
+use mathlib.Core.Path.{ap}
+use lib.ListN.{length}
+use Rattle.masks.specs.declared.shape.Shape.{Shape}
+use Rattle.arithmetic.specs.Dual.{dual}
+use Rattle.exports.proofs.ReportsLaws.{value_reported}
+use Rattle.exports.proofs.values.thresholm_dual.Goals as goal
+
+pub returns : goal.returns
+returns c =
+    let given = c.args in
+    value_reported (ap (λ (s : Shape). dual s given.a.now (length given.out.now)) c.shape_from.ensures) c.dual-answer.ensures c.report.ensures

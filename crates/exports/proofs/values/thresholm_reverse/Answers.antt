@@ -1,0 +1,11 @@
+use mathlib.Core.Path.{ap}
+use lib.ListN.{length}
+use Rattle.masks.specs.declared.shape.Shape.{Shape}
+use Rattle.arithmetic.specs.Reverse.{reverse}
+use Rattle.exports.proofs.ReportsLaws.{value_reported}
+use Rattle.exports.proofs.values.thresholm_reverse.Goals as goal
+
+pub returns : goal.returns
+returns c =
+    let given = c.args in
+    value_reported (ap (λ (s : Shape). reverse s given.a.now (length given.out.now)) c.shape_from.ensures) c.reverse-answer.ensures c.report.ensures

@@ -1,0 +1,33 @@
+use mathlib.Core.Path.{◌≡◌}
+use mathlib.Core.List.{List}
+use Prim.Native.Nat.{ℕ, ◌^◌, ◌<◌}
+use native.Mathlib.Omega.{arith}
+use lib.Ieee.{Float}
+use lib.ListN.{length}
+use Rattle.masks.specs.Order.{place}
+use Rattle.masks.proofs.OrderLaws.{blades_le, place_lt}
+use Rattle.masks.proofs.BladeLaws.{set_laid}
+use Rattle.masks.proofs.blade.put_blade.Goals as goal
+
+-- where the mask stands
+low : (d m : ℕ) (a : List Float) → m < 2 ^ d → length a ≡ 2 ^ d → place d m < length a
+low d m a h e = omega (arith, place_lt d m h)
+
+pub overflow_cast-mask : goal.overflow_cast-mask
+overflow_cast-mask c = omega (arith, blades_le c.args.dims c.requires.0)
+
+pub offset_bounds-out-p : goal.offset_bounds-out-p
+offset_bounds-out-p c =
+    let a = c.args in
+    omega (arith, low a.dims a.mask a.a.now c.requires.1 c.requires.2, blades_le a.dims c.requires.0)
+
+pub bounds-out-p : goal.bounds-out-p
+bounds-out-p c =
+    let a = c.args in
+    omega (arith, low a.dims a.mask a.a.now c.requires.1 c.requires.2)
+
+pub returns : goal.returns
+returns c =
+    let a = c.args in
+    rw (c.copy_all.ensures, c.place_of-p.ensures)
+    (set_laid (place a.dims a.mask) a.x a.a.now a.out.now (low a.dims a.mask a.a.now c.requires.1 c.requires.2))

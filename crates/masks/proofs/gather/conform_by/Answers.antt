@@ -1,0 +1,74 @@
+use mathlib.Core.Path.{◌≡◌, sym, ap, ◌∙◌}
+use Prim.Native.Nat.{◌+◌, ◌^◌, ◌≤◌}
+use native.Mathlib.Omega.{arith}
+use lib.ListN.{length}
+use lib.Seq.{length-take-le}
+use Rattle.masks.specs.Outcome.{laid}
+use Rattle.masks.proofs.OrderLaws.{blades_le}
+use Rattle.masks.proofs.ShapeLaws.{one, promoted_one, conformed_none, conformed_same, conformed_one}
+use Rattle.masks.proofs.gather.conform_by.Goals.{After-blades-count, Else-up-eq0}
+use Rattle.masks.proofs.gather.conform_by.Goals as goal
+
+-- a promotion adds one dimension
+module _ (c : Else-up-eq0) where
+  more : c.args.dims + 1 ≤ 9
+  more = omega (arith, one c.args.up c.requires.0 c.if-up-eq0.false, c.requires.1)
+
+  few : 2 ^ (c.args.dims + 1) ≤ 512
+  few = blades_le (c.args.dims + 1) more
+
+-- a promotion adds one dimension
+module _ (c : After-blades-count) where
+  more-at-After-blades-count : c.args.dims + 1 ≤ 9
+  more-at-After-blades-count = omega (arith, one c.args.up c.requires.0 c.if-up-eq0.false, c.requires.1)
+
+  few-at-After-blades-count : 2 ^ (c.args.dims + 1) ≤ 512
+  few-at-After-blades-count = blades_le (c.args.dims + 1) more-at-After-blades-count
+
+-- what the second step rests on
+module _ (c : After-blades-count) where
+  -- the buffer has as many numbers as there are blades
+  enough : c.blades-count.result ≤ length c.promote-2.new.out
+  enough = omega (arith, c.blades-count.ensures, few-at-After-blades-count c, c.promote-2.auto.out)
+
+pub returns-then-up-eq0 : goal.returns-then-up-eq0
+returns-then-up-eq0 c =
+    let s = c.args in
+    c.resize.ensures
+    ∙ ap (λ xs. laid xs s.out.now) (conformed_none s.up s.dims s.new_dims s.a.now c.if-up-eq0.true)
+
+pub promote-requires : goal.promote-requires
+promote-requires c =
+    let p = c.requires in
+    let r : 2 ^ (c.args.dims + 1) ≤ length c.args.out.now = omega (arith, p.4, ap (λ n. 2 ^ n) c.if-dims-new_dims.true) in
+    (omega (arith, more (goal.at.promote-requires c).Else-up-eq0), p.3, r)
+
+pub returns-then-dims-new_dims : goal.returns-then-dims-new_dims
+returns-then-dims-new_dims c =
+    let a = c.args in
+    let p = c.requires in
+    let e : a.dims + a.up ≡ a.new_dims = omega (arith, one a.up p.0 c.if-up-eq0.false, c.if-dims-new_dims.true) in
+    c.promote.ensures
+    ∙ ap (λ xs. laid xs a.out.now)
+    (promoted_one a.up a.dims a.a.now p.0 c.if-up-eq0.false ∙ sym (conformed_same a.up a.dims a.new_dims a.a.now p.0 e p.2 p.3))
+
+pub promote-requires-2 : goal.promote-requires-2
+promote-requires-2 c = (omega (arith, more (goal.at.promote-requires-2 c).Else-up-eq0), c.requires.3, few (goal.at.promote-requires-2 c).Else-up-eq0)
+
+pub slice_bounds-held-end : goal.slice_bounds-held-end
+slice_bounds-held-end c = enough c
+
+pub slice_bounds-resize-end : goal.slice_bounds-resize-end
+slice_bounds-resize-end c = sym (length-take-le _ _ (enough (goal.at.slice_bounds-resize-end c).After-blades-count))
+
+pub resize-requires-2 : goal.resize-requires-2
+resize-requires-2 c =
+    let p = c.requires in
+    (more (goal.at.resize-requires-2 c).Else-up-eq0, p.2, length-take-le _ _ (enough (goal.at.resize-requires-2 c).After-blades-count) ∙ c.blades-count.ensures, p.4)
+
+pub returns : goal.returns
+returns c =
+    let a = c.args in
+    c.resize-2.ensures
+    ∙ ap (λ xs. laid xs a.out.now)
+    (conformed_one a.up a.dims a.new_dims _ a.a.now _ _ c.requires.0 c.if-up-eq0.false c.blades-count.ensures c.promote-2.ensures)

@@ -1,0 +1,52 @@
+use mathlib.Core.Path.{◌≡◌, refl, sym, ◌∙◌}
+use mathlib.Core.List.{[], ◌∷◌}
+use Prim.Native.Nat.{◌^◌, ◌≤◌, ◌<◌}
+use native.Mathlib.Omega.{arith}
+use borrow.Author.Tests.{lt-ltb, le-ltb}
+use Rattle.masks.specs.Shape.{both_tests}
+use Rattle.masks.specs.Outcome.{refusal, no_room, pair_tests}
+use Rattle.masks.proofs.ShapeLaws.{second_room}
+use Rattle.masks.proofs.OutcomeLaws.{refused_already, refused_first, refused_later, passed}
+use Rattle.masks.proofs.shape.conform_refusal.Goals.{After-blades, Else-no-ne-DONE}
+use Rattle.masks.proofs.shape.conform_refusal.Goals as goal
+
+nothing : refusal [] ≡ 0
+unfolding refusal
+nothing = refl
+
+-- The tests of the pair refuse nothing.
+unrefused : (c : Else-no-ne-DONE) → let a = c.args in refusal (pair_tests a.dims a.other a.res a.count a.count_right a.room) ≡ 0
+unrefused c = sym c.pair_refusal-no.ensures ∙ c.if-no-ne-DONE.false
+
+-- The tests of the pair refuse nothing.
+unrefused-at-After-blades : (c : After-blades) → let a = c.args in refusal (pair_tests a.dims a.other a.res a.count a.count_right a.room) ≡ 0
+unrefused-at-After-blades c = sym c.pair_refusal-no.ensures ∙ c.if-no-ne-DONE.false
+
+-- The room on the right decides.
+decided : (b : After-blades) → let a = b.args in refusal (both_tests a.dims a.other a.res a.count a.count_right a.room a.room_right) ≡ refusal (no_room a.room_right (2 ^ a.res) ∷ [])
+decided b =
+    let a = b.args in
+    second_room a.dims a.other a.res a.count a.count_right a.room a.room_right (unrefused-at-After-blades b)
+
+pub returns-then-no-ne-DONE : goal.returns-then-no-ne-DONE
+returns-then-no-ne-DONE c =
+    let a = c.args in
+    let e = c.pair_refusal-no.ensures in
+    e ∙ sym (refused_already (pair_tests a.dims a.other a.res a.count a.count_right a.room) (no_room a.room_right (2 ^ a.res) ∷ []) (λ z. c.if-no-ne-DONE.true (e ∙ z)))
+
+pub blades-requires : goal.blades-requires
+blades-requires c =
+    let a = c.args in
+    (passed a.dims a.other a.res a.count a.count_right a.room (unrefused c)).result
+
+pub returns-then-room_right-blades : goal.returns-then-room_right-blades
+returns-then-room_right-blades c =
+    let a = c.args in
+    let h : a.room_right < 2 ^ a.res = omega (arith, c.if-room_right-blades.true, c.blades.ensures) in
+    sym (decided (goal.at.returns-then-room_right-blades c).After-blades ∙ refused_first (no_room a.room_right (2 ^ a.res)) [] (lt-ltb _ _ h))
+
+pub returns : goal.returns
+returns c =
+    let a = c.args in
+    let h : 2 ^ a.res ≤ a.room_right = omega (arith, c.if-room_right-blades.false, c.blades.ensures) in
+    sym (decided (goal.at.returns c).After-blades ∙ refused_later (no_room a.room_right (2 ^ a.res)) [] (le-ltb _ _ h) ∙ nothing)

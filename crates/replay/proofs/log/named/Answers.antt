@@ -1,0 +1,26 @@
+use Rattle.replay.specs.Step.{named}
+use Rattle.replay.proofs.log.named.Goals as goal
+
+pub returns-in-Right : goal.returns-in-Right
+unfolding named
+returns-in-Right c = rw c.in-Right.is
+
+pub returns-in-Left : goal.returns-in-Left
+unfolding named
+returns-in-Left c = rw c.in-Left.is
+
+pub returns-in-Reverse : goal.returns-in-Reverse
+unfolding named
+returns-in-Reverse c = rw c.in-Reverse.is
+
+pub returns-in-Dims : goal.returns-in-Dims
+unfolding named
+returns-in-Dims c = rw c.in-Dims.is
+
+pub returns-in-Halt : goal.returns-in-Halt
+unfolding named
+returns-in-Halt c = rw c.in-Halt.is
+
+pub returns-in-Unknown : goal.returns-in-Unknown
+unfolding named
+returns-in-Unknown c = rw c.in-Unknown.is
