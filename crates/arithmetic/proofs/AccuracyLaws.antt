@@ -28,7 +28,6 @@ use Rattle.rounding.proofs.SizedLaws.{range_grid, product_le}
 use Rattle.masks.specs.declared.flavor.Flavor.{Flavor}
 use Rattle.masks.specs.declared.shape.Shape.{Shape}
 use Rattle.masks.specs.Flavor.{metric_of}
-use Rattle.masks.specs.Order.{place}
 use Rattle.masks.specs.Outcome.{Outcome}
 use Rattle.masks.proofs.ListLaws.{get_d_map, both}
 use Rattle.masks.proofs.OrderLaws.{place_zero, order_at, order_place}

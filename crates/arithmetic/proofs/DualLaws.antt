@@ -36,7 +36,7 @@ use Rattle.masks.specs.declared.flavor.Flavor.{Flavor}
 use Rattle.masks.specs.declared.flavor.Flavor.TheVariants.{Vanilla}
 use Rattle.masks.specs.declared.shape.Shape.{Shape}
 use Rattle.masks.specs.Flavor.{metric_of}
-use Rattle.masks.specs.Outcome.{value, shape_of, nought}
+use Rattle.masks.specs.Outcome.{shape_of, nought}
 use Rattle.masks.specs.Order.{grade, grades_below, order, place, start}
 use Rattle.masks.specs.Shape.{negated_if}
 use Rattle.masks.specs.Build.{at_grade}

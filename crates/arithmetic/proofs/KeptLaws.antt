@@ -8,7 +8,7 @@ use native.Mathlib.Omega.{arith}
 use borrow.Author.Tests.{le-ltb, eq-eqb}
 use lib.Ieee.{Float, nan, eq, mul, binary64}
 use lib.ListN.{length, get_or, set, take, drop, replicate, length-map, length-append, length-take, length-set, length-replicate, take-append-drop, get_or-append}
-use lib.Seq.{drop_at, length-take-le, set-append_left}
+use lib.Seq.{length-take-le, set-append_left}
 use Rattle.masks.specs.declared.shape.Shape.{Shape}
 use Rattle.masks.specs.declared.outcome.Answer.{Answer}
 use Rattle.masks.specs.Outcome.{Outcome, Gives, laid, refusal, too_many, unless, value, refused_value, answer_of, nought, result_tests}

@@ -1,5 +1,5 @@
 -- Equality and order, as the reference has them. Assumes nothing.
-use Rattle.std.specs.Prelude.{Bool, true, false, ◌&&◌, ◌||◌, cond, List, [], ◌∷◌, ℕ, eqb, ltb, Float, length}
+use Rattle.std.specs.Prelude.{Bool, true, false, ◌&&◌, ◌||◌, cond, List, [], ◌∷◌, ℕ, ltb, Float, length}
 use Rattle.std.specs.Float.Ieee.{eq, lt, is_nan}
 use Rattle.masks.specs.declared.shape.Shape.{Shape}
 use Rattle.masks.specs.Outcome.{Test, refusal, too_many, wrong_count, unless}

@@ -1,5 +1,5 @@
 -- Duals and the regressive product. Assumes nothing.
-use Rattle.std.specs.Prelude.{List, [], ◌∷◌, ℕ, Float, length}
+use Rattle.std.specs.Prelude.{List, [], ◌∷◌, ℕ, Float}
 use Rattle.std.specs.Float.{binary64}
 use Rattle.masks.specs.declared.flavor.Flavor.TheVariants.{Vanilla}
 use Rattle.masks.specs.declared.shape.Shape.{Shape}

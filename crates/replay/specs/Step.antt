@@ -1,5 +1,5 @@
 -- One step: what the named operation does to a pose. Assumes nothing.
-use Rattle.std.specs.Prelude.{Bool, false, List, map, ℕ, ◌^◌, take, drop}
+use Rattle.std.specs.Prelude.{Bool, false, map, ℕ, ◌^◌, take, drop}
 use Rattle.std.specs.Float.{binary64}
 use Rattle.std.specs.Float.Ieee.{of_bits}
 use Rattle.masks.specs.Outcome.{Outcome, unless, value, refused_value}

@@ -1,5 +1,5 @@
 -- The metric of a pair by counts of ones, which is how the code works it out. A reader need not believe this page: `pair_live` and `pair_minus` (proofs/MetricLaws) hold it to specs/Mode. Assumes nothing.
-use Rattle.std.specs.Prelude.{Bool, not, cond, ℕ, zero, suc, ◌+◌, ◌%◌, ◌^◌, eqb, ℤ}
+use Rattle.std.specs.Prelude.{Bool, not, cond, ℕ, zero, suc, ◌+◌, ◌%◌, ◌^◌, eqb}
 use Rattle.std.specs.Int.Bits.{bit_and, bit_xor}
 use Rattle.clifford.specs.Blade.{has, count}
 use Rattle.clifford.specs.Metric.{turned}

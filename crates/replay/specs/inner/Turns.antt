@@ -1,5 +1,5 @@
 -- The arrays in which a pose and a named value are held. For the contracts of private functions: no public contract rests on it. Assumes nothing.
-use Rattle.std.specs.Prelude.{◌≡◌, Bool, true, false, cond, List, map, ℕ, ◌+◌, ◌*◌, ◌^◌, ◌≤◌, Float, length, take, drop}
+use Rattle.std.specs.Prelude.{◌≡◌, Bool, true, false, cond, List, map, ℕ, ◌+◌, ◌*◌, ◌^◌, Float, take, drop}
 use Rattle.std.specs.Float.{binary64}
 use Rattle.std.specs.Float.Ieee.{of_bits}
 use Rattle.masks.specs.declared.shape.Shape.{Shape}

@@ -16,7 +16,6 @@ module _ (d e m n : ℕ) where
   fewer : (k : ℕ) → k ≡ refusal (too_many d ∷ too_many e ∷ too_many d ∷ wrong_count m d ∷ wrong_count n e ∷ no_room 512 (2 ^ d) ∷ []) → k ≡ refusal (too_many d ∷ too_many e ∷ wrong_count m d ∷ wrong_count n e ∷ [])
   fewer k q = q ∙ later_same d _ _ (λ l. later_same e _ _ (λ h. roomy l))
 
-
 pub returns : goal.returns
 returns c =
     let a = c.args in

@@ -54,7 +54,6 @@ module _ (n : ℕ) (out : List Float) (h : 0 < n) (l : n ≤ length out) where
         let k : length added ≡ n = length-set (map neg rest) 0 _ ∙ negated-length in
         relaid (scaled _) added out _ after n k (scaled_length _ added ∙ k) is-added g
 
-
 -- The output keeps its length when it is negated.
 as_long : (c : After-negate) → length c.negate.new.out ≡ length c.args.out.now
 as_long c = c.negate.auto.out ∙ length-set c.args.out.now 0 _

@@ -43,7 +43,6 @@ module _ (d n : ℕ) (out : List Float) (e : n ≡ 2 ^ d) (h : n ≤ length out)
       ap (λ (xs : List Float). set xs 0 nan) (q ∙ front_all k (zeroed d out) out (omega (arith, zeroed-length)))
       ∙ set_laid 0 nan (zeroed d out) out (omega (arith, zeroed-length, pow_pos d))
 
-
 -- The output keeps its length.
 module _ (c : At-loop-k) where
   as_long : length c.loop-k.out ≡ length c.args.out.now

@@ -45,7 +45,6 @@ module _ (s : Shape) (a : List Float) (r : Answer) (x copy y : List Float) (g : 
       ap (take (length a - 0)) (e ∙ ap (λ (xs : List Float). laid (square_of s xs) y) less-part)
       ∙ take_laid (length a - 0) (square_of s (less_scalar a)) y k
 
-
 module _ (s : Start) where
   fits : Accepted s.args.shape s.args.a.now (length s.args.x.now)
   fits = record { small = s.requires.dims_bound.0; counted = s.requires.dims_bound.1; roomy = omega (arith, s.requires.dims_bound.1, s.requires.dims_bound.2) }
@@ -67,11 +66,14 @@ slice_bounds-put_square-end c = simp length-set (omega (arith, c.requires.dims_b
 
 pub put_square-requires : goal.put_square-requires
 put_square-requires c =
-    record { in_order = c.requires.in_order; dims_bound = (
+    record {
+      in_order = c.requires.in_order;
+      dims_bound = (
         c.requires.dims_bound.0,
         less-length c.args.shape c.args.a.now c.set_dims.result _ c.set_dims.new.out [] c.set_dims.ensures (fits (goal.at.put_square-requires c).Start),
         omega (arith, c.requires.dims_bound.1, c.requires.dims_bound.3),
-      ) }
+      );
+    }
 
 pub slice_bounds-test_of-end : goal.slice_bounds-test_of-end
 slice_bounds-test_of-end c = omega (arith, c.requires.dims_bound.3, c.put_square.auto.out)

@@ -43,7 +43,6 @@ module _ (n : ℕ) (out : List Float) (h : n ≤ length out) where
   all : (k : ℕ) → n ≤ k → front (min k n) (scalar_only (take n out)) out ≡ laid (scalar_only (take n out)) out
   all k g = front_all (min k n) (scalar_only (take n out)) out (omega (arith, long))
 
-
 same : (t : At-loop-k) → length t.loop-k.out ≡ length t.args.out.now
 same t = let s = t.args in ap length t.loop-k.invariant.1 ∙ room s.n s.out.now (omega arith) t.loop-k.k
 

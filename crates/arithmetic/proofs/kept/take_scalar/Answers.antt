@@ -40,7 +40,6 @@ module _ (s : Shape) (a : List Float) (r : Answer) (before mid : List Float) (g 
       let all = unless_done (λ k. nought) (refusal (kept_tests s a (length before))) 0 (get_or a 0 nan) (sym (accepted_kept s a (length before) (copy_accepted s a r before mid g z))) refl in
       record { answered = ap₂ with_scalar w.answered (first ∙ sym all); left = w.left }
 
-
 pub returns-then-number-ne-DONE : goal.returns-then-number-ne-DONE
 unfolding of_bits of_fields
 returns-then-number-ne-DONE c =

@@ -15,8 +15,8 @@ right : (c : Joined-other) → let a = c.args in c.if-other.up_right ≡ a.right
 right c =
     let a = c.args in
     elim c.if-other.branch [
-    | then-other w ↦ w.up_right-is ∙ ap (λ (n : ℕ). a.right.dims + n) (w.promotion-then-other.ensures ∙ rw w.if-other.true)
-    | else-other w ↦ w.up_right-is ∙ sym (add-zero a.right.dims) ∙ ap (λ (n : ℕ). a.right.dims + n) (rw w.if-other.false)
+      | then-other w ↦ w.up_right-is ∙ ap (λ (n : ℕ). a.right.dims + n) (w.promotion-then-other.ensures ∙ rw w.if-other.true)
+      | else-other w ↦ w.up_right-is ∙ sym (add-zero a.right.dims) ∙ ap (λ (n : ℕ). a.right.dims + n) (rw w.if-other.false)
     ]
 
 -- The larger of both sides.

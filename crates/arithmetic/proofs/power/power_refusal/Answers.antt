@@ -59,9 +59,9 @@ not_planar : (c : Joined-else-power-lt0) → (is_negative c.args.power && was_pl
 not_planar c =
     let neg = below_zero_lem c.args.power c.ranges.power in
     elim c.else-power-lt0.branch [
-    | else-power-lt0-via-then-power-lt0+else-was_planar w ↦
-        not_both (is_negative c.args.power) _ (λ _ p. true≢false (sym p ∙ sym (w.was_planar.ensures ∙ ap was_planar w.test_of.ensures) ∙ w.if-was_planar.false))
-    | else-power-lt0-via-else-power-lt0 w ↦ not_both (is_negative c.args.power) _ (λ n _. true≢false (sym n ∙ sym neg ∙ w.if-power-lt0.false))
+      | else-power-lt0-via-then-power-lt0+else-was_planar w ↦
+          not_both (is_negative c.args.power) _ (λ _ p. true≢false (sym p ∙ sym (w.was_planar.ensures ∙ ap was_planar w.test_of.ensures) ∙ w.if-was_planar.false))
+      | else-power-lt0-via-else-power-lt0 w ↦ not_both (is_negative c.args.power) _ (λ n _. true≢false (sym n ∙ sym neg ∙ w.if-power-lt0.false))
     ]
 
 pub returns-then-no-ne-DONE : goal.returns-then-no-ne-DONE

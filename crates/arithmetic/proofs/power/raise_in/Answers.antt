@@ -188,10 +188,10 @@ digit : (c : Joined-p-eq1) → c.scalar-start.result.shape ≡ grown c.args.shap
 digit c g =
     let t = c.loop-p.invariant in
     elim c.if-p-eq1.branch [
-    | then-p-eq1 w ↦
-        odd t c.loop-p-test.true c.if-p-eq1.out c.scalar-start.result.shape (length c.args.x.now - 0) c.requires.flavor_bound.0 g
-        (omega (arith, c.requires.x_len.0)) w.if-p-eq1.true (w.out-is ∙ w.mul_front.ensures)
-    | else-p-eq1 w ↦ even t c.loop-p-test.true c.if-p-eq1.out w.if-p-eq1.false w.out-is
+      | then-p-eq1 w ↦
+          odd t c.loop-p-test.true c.if-p-eq1.out c.scalar-start.result.shape (length c.args.x.now - 0) c.requires.flavor_bound.0 g
+          (omega (arith, c.requires.x_len.0)) w.if-p-eq1.true (w.out-is ∙ w.mul_front.ensures)
+      | else-p-eq1 w ↦ even t c.loop-p-test.true c.if-p-eq1.out w.if-p-eq1.false w.out-is
     ]
 
 -- Half of a number above zero is less.

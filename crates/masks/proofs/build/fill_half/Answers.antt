@@ -56,19 +56,22 @@ loop-g-preserved c =
     let e = c.size_of-count.ensures in
     let a = c.args in
     let k : l.k + c.size_of-count.result ≡ start a.dims (l.g + 1) = omega (arith, e, l.invariant.2, start_next a.dims l.g) in
-    elim c.if-g-odd.branch [ then-g-odd w ↦ (
-      omega arith,
-      omega (arith, counted_more a.odd a.dims l.g w.if-g-odd.true),
-      k,
-      w.out-is ∙ w.copy_part.ensures
-          ∙ rw (l.invariant.3, l.invariant.2, l.invariant.1, e) (spread_more a.odd a.dims l.g a.v.now a.out.now w.if-g-odd.true (omega (arith, l.invariant.1, e, given (goal.at.loop-g-preserved c).At-loop-g c.size_of-count.result e c.loop-g-test.true w.if-g-odd.true)) c.loop-g-test.true c.requires.3),
-    ) | else-g-odd w ↦ (
-      omega arith,
-      w.i-is ∙ l.invariant.1 ∙ sym (counted_same a.odd a.dims l.g w.if-g-odd.false),
-      k,
-      w.out-is ∙ w.clear_part.ensures
-          ∙ rw (l.invariant.3, l.invariant.2, e) (spread_zeros a.odd a.dims l.g a.v.now a.out.now w.if-g-odd.false c.loop-g-test.true c.requires.3),
-    ) ]
+    elim c.if-g-odd.branch [
+      | then-g-odd w ↦ (
+        omega arith,
+        omega (arith, counted_more a.odd a.dims l.g w.if-g-odd.true),
+        k,
+        w.out-is ∙ w.copy_part.ensures
+            ∙ rw (l.invariant.3, l.invariant.2, l.invariant.1, e) (spread_more a.odd a.dims l.g a.v.now a.out.now w.if-g-odd.true (omega (arith, l.invariant.1, e, given (goal.at.loop-g-preserved c).At-loop-g c.size_of-count.result e c.loop-g-test.true w.if-g-odd.true)) c.loop-g-test.true c.requires.3),
+      )
+      | else-g-odd w ↦ (
+        omega arith,
+        w.i-is ∙ l.invariant.1 ∙ sym (counted_same a.odd a.dims l.g w.if-g-odd.false),
+        k,
+        w.out-is ∙ w.clear_part.ensures
+            ∙ rw (l.invariant.3, l.invariant.2, e) (spread_zeros a.odd a.dims l.g a.v.now a.out.now w.if-g-odd.false c.loop-g-test.true c.requires.3),
+      )
+    ]
 
 pub returns : goal.returns
 unfolding order

@@ -12,8 +12,8 @@ neither : (c : Joined-n-total-2) → ((c.args.n ≡ 2 ^ c.args.dims → ⊥) × 
 neither c =
     let p = pow_pos c.args.dims in
     elim c.if-n-total-2.branch [
-    | then-n-total-2+else-n-total-3 w ↦ (omega arith, omega arith)
-    | else-n-total-2 w ↦ (omega arith, omega arith)
+      | then-n-total-2+else-n-total-3 w ↦ (omega arith, omega arith)
+      | else-n-total-2 w ↦ (omega arith, omega arith)
     ]
 
 pub returns-then-n-total : goal.returns-then-n-total

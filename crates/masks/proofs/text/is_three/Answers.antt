@@ -19,7 +19,6 @@ module _ (t : List ℕ) (a b c : ℕ) (h : length t ≡ 3) where
   at-third : get_or t 0 0 ≡ a → get_or t 1 0 ≡ b → same t (a ∷ b ∷ c ∷ []) ≡ eqb (get_or t 2 0) c
   at-third e g = same_three t a b c h ∙ (rw (eq-eqb _ a e, eq-eqb _ b g, and-true (eqb (get_or t 2 0) c)))
 
-
 pub returns-then-t-ne3 : goal.returns-then-t-ne3
 returns-then-t-ne3 c = let a = c.args in sym (same_not a.t.now (a.a ∷ a.b ∷ a.c ∷ []) c.if-t-ne3.true)
 

@@ -32,7 +32,6 @@ module _ (t : List ℕ) where
     at_both : get_or t 0 0 ≡ 67 → get_or t 1 0 ≡ 108 → same (take 2 t) (67 ∷ 108 ∷ []) ≡ true
     at_both e g = same_two t 67 108 h ∙ (rw (eq-eqb _ 67 e, eq-eqb _ 108 g))
 
-
 pub returns-then-t-lt2 : goal.returns-then-t-lt2
 returns-then-t-lt2 c =
     let a = c.args in

@@ -52,19 +52,20 @@ loop-g-preserved c =
     let a = c.args in
     let i : l.i + c.size_of-count.result ≡ start a.dims (l.g + 1) = omega (arith, e, l.invariant.1, start_next a.dims l.g) in
     elim c.if-g-odd.branch [
-    | then-g-odd w ↦ (
-      omega arith,
-      i,
-      omega (arith, counted_more a.odd a.dims l.g w.if-g-odd.true),
-      w.out-is ∙ w.copy_part.ensures
-          ∙ rw (l.invariant.3, l.invariant.2, l.invariant.1, e) (taken_more a.odd a.dims l.g a.a.now a.out.now c.requires.3 w.if-g-odd.true (omega (arith, l.invariant.2, e, room (goal.at.loop-g-preserved c).At-loop-g c.size_of-count.result e c.loop-g-test.true w.if-g-odd.true))),
-    )
-    | else-g-odd w ↦ (
-      omega arith,
-      i,
-      w.k-is ∙ l.invariant.2 ∙ sym (counted_same a.odd a.dims l.g w.if-g-odd.false),
-      w.out-is ∙ l.invariant.3 ∙ taken_same a.odd a.dims l.g a.a.now a.out.now w.if-g-odd.false,
-    ) ]
+      | then-g-odd w ↦ (
+        omega arith,
+        i,
+        omega (arith, counted_more a.odd a.dims l.g w.if-g-odd.true),
+        w.out-is ∙ w.copy_part.ensures
+            ∙ rw (l.invariant.3, l.invariant.2, l.invariant.1, e) (taken_more a.odd a.dims l.g a.a.now a.out.now c.requires.3 w.if-g-odd.true (omega (arith, l.invariant.2, e, room (goal.at.loop-g-preserved c).At-loop-g c.size_of-count.result e c.loop-g-test.true w.if-g-odd.true))),
+      )
+      | else-g-odd w ↦ (
+        omega arith,
+        i,
+        w.k-is ∙ l.invariant.2 ∙ sym (counted_same a.odd a.dims l.g w.if-g-odd.false),
+        w.out-is ∙ l.invariant.3 ∙ taken_same a.odd a.dims l.g a.a.now a.out.now w.if-g-odd.false,
+      )
+    ]
 
 pub returns : goal.returns
 unfolding order

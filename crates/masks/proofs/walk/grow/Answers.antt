@@ -95,8 +95,8 @@ unfolding of_bits of_fields
 front_done c =
     let h : c.loop-k.k + c.loop-k.k < c.blades-last.result - 1 = omega (arith, c.loop-k-test.true) in
     elim c.if-x-low-eq0.branch [
-      then-x-low-eq0 v ↦ rw (v.out-is, v.i-is) (front_taken c.loop-k.invariant.0 h c.args.a.now c.args.out.now c.loop-k.out c.loop-k.invariant.1 v.if-x-low-eq0.true)
-    | else-x-low-eq0 v ↦ rw (v.out-is, v.i-is) (front_left c.loop-k.invariant.0 h c.args.a.now c.args.out.now c.loop-k.out c.loop-k.invariant.1 v.if-x-low-eq0.false)
+      | then-x-low-eq0 v ↦ rw (v.out-is, v.i-is) (front_taken c.loop-k.invariant.0 h c.args.a.now c.args.out.now c.loop-k.out c.loop-k.invariant.1 v.if-x-low-eq0.true)
+      | else-x-low-eq0 v ↦ rw (v.out-is, v.i-is) (front_left c.loop-k.invariant.0 h c.args.a.now c.args.out.now c.loop-k.out c.loop-k.invariant.1 v.if-x-low-eq0.false)
     ]
 
 -- ---- from the back
@@ -123,12 +123,12 @@ loop-k-preserved c =
     let h : c.loop-k.k + c.loop-k.k < c.blades-last.result - 1 = omega (arith, c.loop-k-test.true) in
     let f = front_done (goal.at.loop-k-preserved c).Joined-x-low-eq0 in
     elim c.if-last-x-eq0.branch [
-      then-last-x-eq0 v ↦
-        let b = back_taken w h c.args.a.now c.args.out.now c.if-x-low-eq0.out f.0 v.if-last-x-eq0.true in
-        rw (v.out-is, v.end-is) (walking_next w h _ _ _ c.next_backwards-x.ensures f.1 b.1, b.0)
-    | else-last-x-eq0 v ↦
-        let b = back_left w h c.args.a.now c.args.out.now c.if-x-low-eq0.out f.0 v.if-last-x-eq0.false in
-        rw (v.out-is, v.end-is) (walking_next w h _ _ _ c.next_backwards-x.ensures f.1 b.1, b.0)
+      | then-last-x-eq0 v ↦
+          let b = back_taken w h c.args.a.now c.args.out.now c.if-x-low-eq0.out f.0 v.if-last-x-eq0.true in
+          rw (v.out-is, v.end-is) (walking_next w h _ _ _ c.next_backwards-x.ensures f.1 b.1, b.0)
+      | else-last-x-eq0 v ↦
+          let b = back_left w h c.args.a.now c.args.out.now c.if-x-low-eq0.out f.0 v.if-last-x-eq0.false in
+          rw (v.out-is, v.end-is) (walking_next w h _ _ _ c.next_backwards-x.ensures f.1 b.1, b.0)
     ]
 
 pub returns : goal.returns

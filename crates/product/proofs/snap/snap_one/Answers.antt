@@ -29,7 +29,6 @@ module _ (x : Float) (t : T (fits binary64 x)) where
   kept : test x ≡ false → x ≡ snap binary64 x
   kept p = sym (by_code ∙ ap (λ (a : Bool). cond a (whole x (eq (rounded x) (of_bits binary64 0))) x) p)
 
-
 -- The format holds the argument.
 held : (c : Start) → T (fits binary64 c.args.x)
 held c = search rules

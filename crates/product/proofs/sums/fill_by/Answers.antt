@@ -25,13 +25,12 @@ add_blades-requires c =
     )
 
 pub take_back-requires : goal.take_back-requires
-take_back-requires c =
-    (
-      c.requires.dims_bound.0,
-      turned_length (sub binary64 nought) c.turned_mask-turn.result (2 ^ c.args.dims) _ _ _ c.add_blades.ensures (rows_length _ _ _ _ _ _ _ _) c.turn_out.ensures,
-      c.requires.dims_bound.3,
-      c.requires.dims_bound.4,
-    )
+take_back-requires c = (
+  c.requires.dims_bound.0,
+  turned_length (sub binary64 nought) c.turned_mask-turn.result (2 ^ c.args.dims) _ _ _ c.add_blades.ensures (rows_length _ _ _ _ _ _ _ _) c.turn_out.ensures,
+  c.requires.dims_bound.3,
+  c.requires.dims_bound.4,
+)
 
 pub returns : goal.returns
 returns c f e =

@@ -37,7 +37,6 @@ module _ (ss : List Shape) (n i : ℕ) (few : n ≤ length ss) (small : any_abov
   count_next : (c : Count) → c ≡ blade_count (shape_at ss i).dims → c.count ≡ 2 ^ (shape_at ss i).dims
   count_next c e = blades_counted e dims-small
 
-
 -- start i written at i, one more is written
 one_more : (ss : List Shape) (i sum : ℕ) (starts : List ℕ) → i < length starts → sum ≡ start_of ss i → Written ss i starts → Written ss (i + 1) (set starts i sum)
 one_more ss i sum starts l e h k g =

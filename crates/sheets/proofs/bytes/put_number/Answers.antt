@@ -24,7 +24,6 @@ module _ (out : List ℕ) (count at x i : ℕ) where
       let none : count - i ≡ 0 = omega arith in
       ap (λ (k : ℕ). sets out (at + i) (little_endian k x)) none
 
-
 pub loop-i-init : goal.loop-i-init
 loop-i-init c = (refl, rw (add-zero, sub-zero))
 

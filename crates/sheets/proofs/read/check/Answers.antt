@@ -65,7 +65,6 @@ module _ (b : List ℕ) (n : ℕ) (counted : n ≡ shapes_said b) where
   said_count : (k : ℕ) → k ≡ from_little_endian (take 4 (drop (2 + 5 * n) b)) → k ≡ patterns_said b
   said_count k e = e ∙ ap (λ (m : ℕ). from_little_endian (take 4 (drop (2 + 5 * m) b))) counted
 
-
 pub returns-then-bytes-lt2 : goal.returns-then-bytes-lt2
 returns-then-bytes-lt2 c = refused c.args.bytes.now c.refused_sheet.result c.refused_sheet.ensures (λ w. omega (arith, w.counted, c.if-bytes-lt2.true))
 

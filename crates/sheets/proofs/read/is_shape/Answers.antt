@@ -62,8 +62,8 @@ met j =
     let p = get_or j.args.bytes.now (j.args.at + 2) 0 in
     let n = eqb (get_or j.args.bytes.now (j.args.at + 3) 0) 0 in
     elim j.if-bytes-at-eq0.branch [
-      then-bytes-at-eq0 w ↦ w.value-is ∙ sym (ap (λ (b : Bool). b && n) (eq-eqb p 0 w.if-bytes-at-eq0.true))
-    | else-bytes-at-eq0 w ↦ w.value-is ∙ ne_eqb p 0 w.if-bytes-at-eq0.false ∙ sym (ap (λ (b : Bool). b && n) (ne_eqb p 0 w.if-bytes-at-eq0.false))
+      | then-bytes-at-eq0 w ↦ w.value-is ∙ sym (ap (λ (b : Bool). b && n) (eq-eqb p 0 w.if-bytes-at-eq0.true))
+      | else-bytes-at-eq0 w ↦ w.value-is ∙ ne_eqb p 0 w.if-bytes-at-eq0.false ∙ sym (ap (λ (b : Bool). b && n) (ne_eqb p 0 w.if-bytes-at-eq0.false))
     ]
 
 pub returns-then-bytes-at-gt-MAX_DIMS : goal.returns-then-bytes-at-gt-MAX_DIMS

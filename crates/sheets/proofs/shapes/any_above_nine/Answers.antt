@@ -20,7 +20,6 @@ module _ (ss : List Shape) (i : ℕ) where
   one-above n h l g =
       sym (above_at i (take n ss) (omega (arith, length-take-le n ss l)) (rw (get_or-take n ss i (shape_of 0 Vanilla) h) g))
 
-
 pub loop-i-init : goal.loop-i-init
 unfolding any_above_nine
 loop-i-init c = (omega arith, refl)

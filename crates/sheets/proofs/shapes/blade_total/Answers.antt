@@ -33,7 +33,6 @@ module _ (ss : List Shape) (n i : ℕ) (few : n ≤ length ss) (small : any_abov
       let none : any_above_nine (take i ss) ≡ false = rw (← (take-take i n ss h)) (above_take i (take n ss) small) in
       omega (arith, blade_total-le (take i ss) none, length-take-le i ss (omega arith))
 
-
 pub loop-i-init : goal.loop-i-init
 unfolding blade_total
 loop-i-init c = (omega arith, refl)

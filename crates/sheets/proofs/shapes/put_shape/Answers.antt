@@ -21,7 +21,6 @@ module _ (out six : List ℕ) (width at i : ℕ) where
   left-none : width ≤ i → width ≤ length six → sets out (at + i) (drop i (take width six)) ≡ out
   left-none h l = rw (drop_of_length-le (take width six) {i = i} (omega (arith, length-take-le width six l)))
 
-
 -- there are six bytes
 six-bytes : (c : After-shape_bytes-six) → length c.shape_bytes-six.result ≡ 6
 six-bytes c = ap length c.shape_bytes-six.ensures ∙ shape_bytes-length c.args.shape

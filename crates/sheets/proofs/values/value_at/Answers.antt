@@ -40,7 +40,6 @@ module _ (s : Shapes) (n i : ℕ) (held : length s.held ≡ 64) (counted : n ≡
       unfolding value_at unless refusal
       value-listed k e = rw (first, small, first-length, lt-leb n i h, e, get_or-take n s.held i (shape_of 0 Vanilla) h, take-take i n s.held (omega arith))
 
-
 pub returns-then-any_above_nine : goal.returns-then-any_above_nine
 returns-then-any_above_nine c =
     let listed = c.listed_count-n in
