@@ -18,7 +18,7 @@ under_prefix = $(patsubst $(PREFIX)/%,$${prefix}/%,$(1))
 .PHONY: all install uninstall check
 all: $(ARCHIVE) $(shared)
 
-target/native/libthresholm.a: crates.txt tools/native-archive $(shell find crates -type d -o -name '*.rt' -o -name '*.antt')
+target/native/libthresholm.a: crates.txt tools/native-archive $(shell find $(wildcard crates/*/src crates/*/specs crates/*/proofs) -type d -o -name '*.rt' -o -name '*.antt')
 	bash tools/native-archive
 
 # The calls are the only symbols of the archive that are not local, so they are all that it exports.

@@ -6,8 +6,12 @@ use std::io::{self, BufRead, BufReader, Read, Write};
 use std::path::{Path, PathBuf};
 use std::process::{Command, Stdio};
 
-/// What tools/native-archive needs of the repository. In this crate's folder they are links, which `cargo package` follows.
-const SOURCES: [&str; 3] = ["crates", "crates.txt", "tools/native-archive"];
+/// What tools/native-archive needs of the repository: two files, and of each crate three folders.
+const FILES: [&str; 2] = ["crates.txt", "tools/native-archive"];
+const PARTS: [&str; 3] = ["src", "specs", "proofs"];
+
+/// Where rt keeps the library that it built of a crate.
+const BUILT: &str = "out/rlib";
 
 /// What tools/native-archive leaves: the archive, and then the stamp of what it was built of.
 const ARCHIVE: &str = "target/native/libthresholm.a";
@@ -17,25 +21,61 @@ const STAMP: &str = "target/native/libthresholm.a.stamp";
 pub fn proved() -> Result<PathBuf, Missing> {
     let home = PathBuf::from(env::var_os("CARGO_MANIFEST_DIR").unwrap_or_default());
     let room = PathBuf::from(env::var_os("OUT_DIR").unwrap_or_default()).join("proved");
-    for source in SOURCES {
-        println!("cargo::rerun-if-changed={}", home.join("proved").join(source).display());
-    }
-    same_machine()?;
-    let needed = ["rt", "bash"].into_iter().find(|command| !is_on_path(command));
-    needed.map_or(Ok(()), |command| Err(lacking(command)))?;
-    let sources = home.join("proved");
-    copy_sources(&sources, &room).map_err(|error| {
+    let sources = sources(&home)?;
+    let not_copied = |error: io::Error| {
         let (from, to) = (sources.display(), room.display());
         Missing::Told(vec![format!("the sources of the library could not be copied from {from} to {to}: {error}")])
-    })?;
+    };
+    let needed = parts(&sources, &PARTS).map_err(not_copied)?;
+    for source in &needed {
+        println!("cargo::rerun-if-changed={}", sources.join(source).display());
+    }
+    same_machine()?;
+    let needs = ["rt", "bash"].into_iter().find(|command| !is_on_path(command));
+    needs.map_or(Ok(()), |command| Err(lacking(command)))?;
+    copy_sources(&needed, &sources, &room).map_err(not_copied)?;
     // An archive that cannot be taken over is built again.
-    let _ = take_over(&home.join(".."), &room);
-    built(&room)
+    let _ = take_over(&sources, &room);
+    let archive = built(&room)?;
+    // In a checkout `rt ci` refuses sources that are no crate's. What was proved of them stays.
+    let _ = remove_sources(&room);
+    Ok(archive)
 }
 
-/// The archive is built for the machine that builds it.
+/// Where the sources of the library are: in a package in proved/, where tools/package-crate puts them, and else in the checkout.
+fn sources(home: &Path) -> Result<PathBuf, Missing> {
+    let places = [home.join("proved"), home.join("..")];
+    let found = places.iter().find(|place| FILES.iter().all(|file| place.join(file).is_file()));
+    found.cloned().ok_or_else(|| {
+        let [packed, checkout] = places.map(|place| place.display().to_string());
+        Missing::Told(vec![
+            format!("the sources of the library are neither in {packed} nor in {checkout}"),
+            "tools/package-crate packs this crate with them".to_string(),
+        ])
+    })
+}
+
+/// The two files, and of each crate those of the folders that are there, seen from the folder of the sources.
+fn parts(sources: &Path, folders: &[&str]) -> io::Result<Vec<PathBuf>> {
+    let mut found = FILES.map(PathBuf::from).to_vec();
+    for entry in fs::read_dir(sources.join("crates"))? {
+        let name = Path::new("crates").join(entry?.file_name());
+        found.extend(folders.iter().map(|folder| name.join(folder)).filter(|folder| sources.join(folder).is_dir()));
+    }
+    Ok(found)
+}
+
+/// The archive is built for the machine that builds it, which is x86-64.
 fn same_machine() -> Result<(), Missing> {
     let [host, target] = ["HOST", "TARGET"].map(|name| env::var(name).unwrap_or_default());
+    if !target.starts_with("x86_64-") {
+        return Err(Missing::Told(vec![
+            format!(
+                "the library is proved with the Rattle kit, which compiles for x86-64 alone; this build is for {target}"
+            ),
+            "an archive for it, libNAME.a, can be named in THRESHOLM_ARCHIVE instead".to_string(),
+        ]));
+    }
     if host == target {
         return Ok(());
     }
@@ -64,15 +104,23 @@ fn lacking(command: &str) -> Missing {
 }
 
 /// Copies the sources anew; what was proved of them stays, and holds as long as they have the same bytes.
-fn copy_sources(from: &Path, to: &Path) -> io::Result<()> {
-    for source in SOURCES {
-        let there = to.join(source);
+fn copy_sources(needed: &[PathBuf], from: &Path, to: &Path) -> io::Result<()> {
+    remove_sources(to)?;
+    needed.iter().try_for_each(|source| copy(&from.join(source), &to.join(source)))
+}
+
+/// Removes the sources from a folder that they were copied to, and the libraries that were built of them, which have copies too.
+fn remove_sources(from: &Path) -> io::Result<()> {
+    if !from.join("crates").is_dir() {
+        return Ok(());
+    }
+    for source in parts(from, &[PARTS.as_slice(), &[BUILT]].concat())? {
+        let there = from.join(source);
         if there.is_dir() {
             fs::remove_dir_all(&there)?;
         } else if there.exists() {
             fs::remove_file(&there)?;
         }
-        copy(&from.join(source), &there)?;
     }
     Ok(())
 }
