@@ -97,7 +97,7 @@ pub(crate) fn refused_pair(number: u8) -> Answers
 }
 
 // The number that a call is refused with, or 0: its value has `dims` dimensions and `count` numbers, its result stands in
-// `result` dimensions, has `needed` numbers and goes to `room`.
+// `res` dimensions, has `needed` numbers and goes to `room`.
 pub fn refusal_of(dims: u8, res: u8, count: usize, room: usize, needed: usize) -> u8
     ensures { result ≡ refusal (result_tests dims res count room needed) }
 {
@@ -129,7 +129,7 @@ pub fn value_refusal(dims: u8, count: usize) -> u8
     DONE
 }
 
-// The same for two values: the result stands in `result` dimensions and goes to `room`.
+// The same for two values: the result stands in `res` dimensions and goes to `room`.
 pub fn pair_refusal(
     dims: u8,
     other: u8,

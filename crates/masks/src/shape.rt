@@ -48,7 +48,7 @@ fn larger(a: u8, b: u8) -> u8
     if a < b { b } else { a }
 }
 
-// The number that conforming two values to `result` dimensions is refused with, or 0.
+// The number that conforming two values to `res` dimensions is refused with, or 0.
 fn conform_refusal(
     dims: u8,
     other: u8,

@@ -15,6 +15,7 @@ pub enum Mode {
 }
 
 // The flavor whose metric the mode uses, for a left value of the given one.
+#[tactic(auto, unfolding(crate::specs::Mode::flavor_for))]
 pub(crate) fn flavor_for(mode: Mode, flavor: Flavor) -> Flavor
     ensures { result ≡ flavor_for mode flavor }
 {
