@@ -1,11 +1,10 @@
--- The multivectors with the product over the whole numbers are an algebra of the relations, and in it the word that a mask stands for is 1 at the mask's
--- place and 0 elsewhere. The product with its factors exchanged is an algebra of the relations too: the last law is what shuts it out.
+-- The multivectors with the product over the whole numbers are an algebra of the relations, and in it the words of masks follow one another. The product
+-- with its factors exchanged is an algebra of the relations too: the last law is what shuts it out. AlgebraWords draws the sum.
 use mathlib.Core.Path.{◌≡◌, refl, sym, ◌∙◌, ap, ap₂, fun_ext}
 use mathlib.Core.Bool.{cond}
 use mathlib.Core.HLevel.{is_prop→PathP, Π_prop}
 use mathlib.Core.Logic.{◌≢◌}
-use Prim.Native.Nat.{ℕ, zero, suc, ◌-◌, ◌^◌, ◌<◌, ◌≤◌}
-use native.Mathlib.Nat.{le_refl}
+use Prim.Native.Nat.{ℕ, ◌^◌, ◌<◌, ◌≤◌}
 use native.Mathlib.Omega.{arith}
 use native.Mathlib.Decide.{dec_lt}
 use lib.Pow.{pow_pos, pow-lt}
@@ -22,7 +21,7 @@ use Rattle.clifford.specs.Multivector.{Multivector}
 use Rattle.clifford.proofs.Ring.{mul_assoc, neg_mul, one_mul}
 use Rattle.clifford.proofs.SumLaws.{δ_other}
 use Rattle.clifford.proofs.AlgebraLaws.{stands_times}
-use Rattle.clifford.proofs.VectorLaws.{stands_vector, stands_scalar, metric_squared, metric_exchanged, above, metric_above}
+use Rattle.clifford.proofs.VectorLaws.{stands_vector, stands_scalar, metric_squared, metric_exchanged, metric_above}
 use Rattle.clifford.proofs.ProductLaws.{multiply_beyond, multiply_assoc, unit_multiply, multiply_unit, scaled_multiply, multiply_scaled, multiply_basis}
 
 -- ---- multivectors
@@ -78,10 +77,10 @@ module _ (g : ℕ → ℤ) (d : ℕ) (order place : ℕ → ℕ) (inverse : Bije
       }
 
   -- `blade m` is 1 at the place of the mask m, and 0 elsewhere.
-  abbrev blade : ℕ → Multivector d
+  abbrev pub blade : ℕ → Multivector d
   blade m = cut d (δ (place m))
 
-  blade_is : (m : ℕ) → m < 2 ^ d → (blade m).coefficient ≡ δ (place m)
+  pub blade_is : (m : ℕ) → m < 2 ^ d → (blade m).coefficient ≡ δ (place m)
   blade_is m h = cut_is d (place m) (place_lt m h)
 
   -- Two masks' blades multiply to their metric times the blade of their xor.
@@ -145,27 +144,13 @@ module _ (g : ℕ → ℤ) (d : ℕ) (order place : ℕ → ℕ) (inverse : Bije
   unfolding word_value algebra
   word_vector n l = rw (stands_vector d n l) (unit_r (blade (2 ^ n)))
 
+  -- No vectors are the unit.
+  pub word_none : word_value algebra (stands d 0) ≡ blade 0
+  unfolding word_value algebra
+  word_none = rw (stands_scalar d)
+
   -- After the vectors of the mask a comes the vector n above them.
-  word_step : (n a : ℕ) → n < d → a < 2 ^ n → word_value algebra (stands d a) ≡ blade a → word_value algebra (stands d (bit_xor a (2 ^ n))) ≡ blade (bit_xor a (2 ^ n))
+  pub word_step : (n a : ℕ) → n < d → a < 2 ^ n → word_value algebra (stands d a) ≡ blade a → word_value algebra (stands d (bit_xor a (2 ^ n))) ≡ blade (bit_xor a (2 ^ n))
   unfolding algebra
   word_step n a l h below = unsigned (metric g d a (2 ^ n)) (metric_above g d n a h) (word_value algebra (stands d (bit_xor a (2 ^ n)))) (blade (bit_xor a (2 ^ n)))
       (sym (stands_times algebra a (2 ^ n)) ∙ ap₂ (λ x y. x · y) below (word_vector n l) ∙ blades_times a (2 ^ n) (omega (arith, pow-lt l)) (pow-lt l))
-
-  word_blade : (n : ℕ) → n ≤ d → (m : ℕ) → m < 2 ^ n → word_value algebra (stands d m) ≡ blade m
-  unfolding word_value algebra
-  word_blade zero l m h = rw (none m h, stands_scalar d)
-    where
-      none : (m : ℕ) → m < 1 → m ≡ 0
-      none m h = omega arith
-  word_blade (suc n) l m h =
-      elim (dec_lt m (2 ^ n)) [
-        | yes k ↦ word_blade n (omega arith) m k
-        | no k ↦ rw (← joined k) (word_step n (m - 2 ^ n) l (omega arith) (word_blade n (omega arith) (m - 2 ^ n) (omega arith)))
-      ]
-    where
-      joined : ¬ (m < 2 ^ n) → bit_xor (m - 2 ^ n) (2 ^ n) ≡ m
-      joined k = above n (m - 2 ^ n) (omega arith) ∙ omega arith
-
-  -- The vectors of a mask, multiplied in the order that it stands for, are 1 at the mask's place and 0 elsewhere.
-  pub stands_placed : (m : ℕ) → m < 2 ^ d → (k : ℕ) → (word_value algebra (stands d m)).coefficient k ≡ δ (place m) k
-  stands_placed m h k = ap (λ (x : Multivector d). x.coefficient k) (word_blade d (le_refl d) m h) ∙ ap (λ (f : ℕ → ℤ). f k) (blade_is m h)

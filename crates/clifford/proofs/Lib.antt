@@ -13,6 +13,7 @@ pub mod VectorLaws
 pub mod Twisted
 pub mod ProductLaws
 pub mod AlgebraModel
+pub mod AlgebraWords
 pub mod Counting
 pub mod PairsLaws
 pub mod Examples

@@ -8,6 +8,7 @@ use Rattle.clifford.specs.Algebra.{Clifford, word_value}
 use Rattle.clifford.specs.Multivector.{Multivector}
 use Rattle.clifford.proofs.AlgebraLaws.{pair}
 use Rattle.clifford.proofs.AlgebraModel as Model
+use Rattle.clifford.proofs.AlgebraWords as Words
 use Rattle.masks.specs.declared.flavor.Flavor.{Flavor}
 use Rattle.masks.specs.Order.{place}
 use Rattle.masks.specs.Flavor.{metric_of}
@@ -35,7 +36,7 @@ module _ (flavor : Flavor) (d : ℕ) where
   -- The vectors of a mask multiplied in rising order, but at d = 3 those of 101 as e3 e1, are 1 at the mask's place and 0 elsewhere.
   pub stands_placed : (m : ℕ) → m < 2 ^ d → (k : ℕ) → (word_value algebra (stands d m)).coefficient k ≡ δ (place d m) k
   unfolding algebra
-  stands_placed = Model.stands_placed (metric_of flavor) d (mask_at d) (place d) (bijective d)
+  stands_placed = Words.stands_placed (metric_of flavor) d (mask_at d) (place d) (bijective d)
 
 -- At d = 3 e3 e1 is 1 at place 5 and 0 elsewhere.
 module _ (flavor : Flavor) where

@@ -232,22 +232,22 @@ square_front-requires c =
       dims_bound = (omega (arith, p.flavor_bound.0), p.x_len.0, omega (arith, p.flavor_bound.2, c.loop-p.auto.base, c.set_dims.auto.out), omega (arith, m, p.x_len.0, p.flavor_bound.3, c.if-p-eq1.auto.next, c.loop-p.auto.next));
     }
 
-pub loop-p-smaller-then-p-gt0 : goal.loop-p-smaller-then-p-gt0
-loop-p-smaller-then-p-gt0 c = less _ c.loop-p-test.true
-
 pub loop-p-preserved-then-p-gt0 : goal.loop-p-preserved-then-p-gt0
 loop-p-preserved-then-p-gt0 c =
     let a = goal.at.loop-p-preserved-then-p-gt0 c in
     let q = c.square_front in
     goes_on (digit a.Joined-p-eq1 (shape_is a.At-loop-p)) (length c.args.x.now) c.requires.x_len.0 q.ensures
 
-pub loop-p-smaller : goal.loop-p-smaller
-loop-p-smaller c = less _ c.loop-p-test.true
-
 pub loop-p-preserved : goal.loop-p-preserved
 loop-p-preserved c =
     let a = goal.at.loop-p-preserved c in
     stops (digit a.Joined-p-eq1 (shape_is a.At-loop-p)) c.if-p-gt0.false
+
+pub loop-p-smaller-then-p-gt0 : goal.loop-p-smaller-then-p-gt0
+loop-p-smaller-then-p-gt0 c = less _ c.loop-p-test.true
+
+pub loop-p-smaller : goal.loop-p-smaller
+loop-p-smaller c = less _ c.loop-p-test.true
 
 pub returns : goal.returns
 unfolding of_bits of_fields

@@ -10,13 +10,13 @@ use Rattle.masks.proofs.BuildLaws.{built_taken}
 use Rattle.masks.proofs.build.one_grade.Goals.{Else-no-ne-DONE}
 use Rattle.masks.proofs.build.one_grade.Goals as goal
 
--- the call is not refused
-ok : (c : Else-no-ne-DONE) → ((c.args.dims ≤ 9) × (2 ^ c.args.dims ≤ length c.args.out.now))
-ok c = built_taken _ _ (sym c.built_refusal-no.ensures ∙ c.if-no-ne-DONE.false)
-
 pub returns-then-no-ne-DONE : goal.returns-then-no-ne-DONE
 unfolding one_grade
 returns-then-no-ne-DONE c = gives_refused _ _ _ _ _ c.built_refusal-no.ensures c.if-no-ne-DONE.true c.refused.ensures
+
+-- the call is not refused
+ok : (c : Else-no-ne-DONE) → ((c.args.dims ≤ 9) × (2 ^ c.args.dims ≤ length c.args.out.now))
+ok c = built_taken _ _ (sym c.built_refusal-no.ensures ∙ c.if-no-ne-DONE.false)
 
 pub overflow_cast-n : goal.overflow_cast-n
 overflow_cast-n c = omega (arith, ok c)

@@ -70,19 +70,25 @@ module _ (s : Start) where
   left_asked : (0 + bit_xor b null < 2 ^ d) × (bit_and 0 (bit_xor b null) ≡ 0) × (bit_and 0 (bit_xor b null) ≡ 0)
   left_asked = asked (bit_xor b null) (xor_lt d b null b_lt null_lt)
 
+  -- And of the blade as the base, with all other vectors free.
+  right_asked : (b + bit_xor (n - 1) b < 2 ^ d) × (bit_and b (bit_xor (n - 1) b) ≡ 0) × (bit_and 0 (bit_xor (n - 1) b) ≡ 0)
+  right_asked = (free_add d n size b b_lt, free_apart d n size b b_lt, and_zero_l (bit_xor (n - 1) b))
+
 pub overflow_cast-full : goal.overflow_cast-full
 overflow_cast-full c = omega (arith, blades_le c.args.dims c.requires.dims_bound.0)
 
 pub add_subsets-requires : goal.add_subsets-requires
 add_subsets-requires c = record { dims_bound = c.requires.dims_bound; free_bound = all_asked (goal.at.add_subsets-requires c).Start }
 
+-- Either base may be asked of.
 pub add_subsets-requires-in-Left : goal.add_subsets-requires-in-Left
-add_subsets-requires-in-Left c = record { dims_bound = c.requires.dims_bound; free_bound = left_asked (goal.at.add_subsets-requires-in-Left c).Start }
+add_subsets-requires-in-Left c =
+    let s = (goal.at.add_subsets-requires-in-Left c).Start in
+    record { dims_bound = c.requires.dims_bound; free_bound = assumption (left_asked s, right_asked s) }
 
 pub add_subsets-requires-then-null-eq0-2 : goal.add_subsets-requires-then-null-eq0-2
 add_subsets-requires-then-null-eq0-2 c =
-    let s = (goal.at.add_subsets-requires-then-null-eq0-2 c).Start in
-    record { dims_bound = c.requires.dims_bound; free_bound = (free_add (d s) (n s) (size s) (b s) (b_lt s), free_apart (d s) (n s) (size s) (b s) (b_lt s), and_zero_l (bit_xor (n s - 1) (b s))) }
+    record { dims_bound = c.requires.dims_bound; free_bound = right_asked (goal.at.add_subsets-requires-then-null-eq0-2 c).Start }
 
 pub add_subsets-requires-in-Inner : goal.add_subsets-requires-in-Inner
 add_subsets-requires-in-Inner c = record { dims_bound = c.requires.dims_bound; free_bound = left_asked (goal.at.add_subsets-requires-in-Inner c).Start }
