@@ -14,8 +14,8 @@ module _ (c : Else-no-ne-DONE) where
   kept : refusal (kept_tests c.args.shape c.args.a.now (length c.args.out.now)) ≡ 0
   kept = sym c.kept_refusal-no.ensures ∙ c.if-no-ne-DONE.false
 
-  value-accepted : Accepted c.args.shape c.args.a.now (length c.args.out.now)
-  value-accepted = kept_accepted _ _ _ kept
+  value_accepted : Accepted c.args.shape c.args.a.now (length c.args.out.now)
+  value_accepted = kept_accepted _ _ _ kept
 
 -- What was asked is whether the value is planar.
 asked : (c : After-was_planar) → c.was_planar.result ≡ was_planar (test_of c.args.shape c.args.a.now)
@@ -27,7 +27,7 @@ returns-then-no-ne-DONE c =
     gives_not_kept a.shape a.a.now c.refused.result a.out.now _ c.kept_refusal-no.ensures c.if-no-ne-DONE.true c.refused.ensures
 
 pub test_of-requires : goal.test_of-requires
-test_of-requires c = (value-accepted c).counted
+test_of-requires c = (value_accepted c).counted
 
 pub returns-then-was_planar : goal.returns-then-was_planar
 returns-then-was_planar c =
@@ -35,7 +35,7 @@ returns-then-was_planar c =
     gives_no_inverse a.shape a.a.now c.refused-then-was_planar.result a.out.now (kept (goal.at.returns-then-was_planar c).Else-no-ne-DONE) (sym (asked (goal.at.returns-then-was_planar c).After-was_planar) ∙ c.if-was_planar.true) c.refused-then-was_planar.ensures
 
 pub put_inverse-requires : goal.put_inverse-requires
-put_inverse-requires c = let f = value-accepted (goal.at.put_inverse-requires c).Else-no-ne-DONE in record { in_order = passed_none _; dims_bound = (f.small, f.counted, f.roomy) }
+put_inverse-requires c = let f = value_accepted (goal.at.put_inverse-requires c).Else-no-ne-DONE in record { in_order = passed_none _; dims_bound = (f.small, f.counted, f.roomy) }
 
 pub returns : goal.returns
 returns c =

@@ -28,21 +28,21 @@ module _ (s : Shape) (a : List Float) (r : Answer) (x copy y : List Float) (g : 
   abbrev less : List Float
   less = set copy 0 (add binary64 (get_or a 0 nan) (neg (get_or a 0 nan)))
 
-  less-part : take (length a - 0) less ≡ less_scalar a
+  less_part : take (length a - 0) less ≡ less_scalar a
   unfolding less_scalar
-  less-part =
+  less_part =
       let k : length (set a 0 (add binary64 (get_or a 0 nan) (neg (get_or a 0 nan)))) ≡ length a - 0 = length-set a 0 _ ∙ omega arith in
       ap (λ (xs : List Float). take (length a - 0) (set xs 0 (add binary64 (get_or a 0 nan) (neg (get_or a 0 nan))))) (copy_whole s a r x copy g f)
       ∙ ap (take (length a - 0)) (set_laid 0 _ a x some)
       ∙ take_laid (length a - 0) _ x k
 
-  less-length : length (take (length a - 0) less) ≡ 2 ^ s.dims
-  less-length = ap length less-part ∙ less_scalar_length a ∙ f.counted
+  less_length : length (take (length a - 0) less) ≡ 2 ^ s.dims
+  less_length = ap length less_part ∙ less_scalar_length a ∙ f.counted
 
-  square-part : (after : List Float) → after ≡ laid (square_of s (take (length a - 0) less)) y → take (length a - 0) after ≡ square_of s (less_scalar a)
-  square-part after e =
+  square_part : (after : List Float) → after ≡ laid (square_of s (take (length a - 0) less)) y → take (length a - 0) after ≡ square_of s (less_scalar a)
+  square_part after e =
       let k : length (square_of s (less_scalar a)) ≡ length a - 0 = product_length All s.flavor s.dims binary64 (less_scalar a) (less_scalar a) ∙ omega (arith, f.counted) in
-      ap (take (length a - 0)) (e ∙ ap (λ (xs : List Float). laid (square_of s xs) y) less-part)
+      ap (take (length a - 0)) (e ∙ ap (λ (xs : List Float). laid (square_of s xs) y) less_part)
       ∙ take_laid (length a - 0) (square_of s (less_scalar a)) y k
 
 module _ (s : Start) where
@@ -70,7 +70,7 @@ put_square-requires c =
       in_order = c.requires.in_order;
       dims_bound = (
         c.requires.dims_bound.0,
-        less-length c.args.shape c.args.a.now c.set_dims.result _ c.set_dims.new.out [] c.set_dims.ensures (fits (goal.at.put_square-requires c).Start),
+        less_length c.args.shape c.args.a.now c.set_dims.result _ c.set_dims.new.out [] c.set_dims.ensures (fits (goal.at.put_square-requires c).Start),
         omega (arith, c.requires.dims_bound.1, c.requires.dims_bound.3),
       );
     }
@@ -87,4 +87,4 @@ shape_of-x c =
 pub returns : goal.returns
 returns c =
     c.test_of.ensures
-    ∙ ap (test_of c.args.shape) (square-part c.args.shape c.args.a.now c.set_dims.result _ c.set_dims.new.out _ c.set_dims.ensures (fits (goal.at.returns c).Start) _ c.put_square.ensures)
+    ∙ ap (test_of c.args.shape) (square_part c.args.shape c.args.a.now c.set_dims.result _ c.set_dims.new.out _ c.set_dims.ensures (fits (goal.at.returns c).Start) _ c.put_square.ensures)

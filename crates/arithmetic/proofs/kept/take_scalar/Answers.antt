@@ -29,12 +29,12 @@ module _ (s : Shape) (a : List Float) (r : Answer) (before mid : List Float) (g 
   some : r.number ≡ 0 → 0 < length a
   some z = let f = copy_accepted s a r before mid g z in omega (arith, f.counted, pow_pos s.dims)
 
-  in-copy : r.number ≡ 0 → 0 < length mid
-  in-copy z = omega (arith, some z, copy_room s a r before mid g z)
+  in_copy : r.number ≡ 0 → 0 < length mid
+  in_copy z = omega (arith, some z, copy_room s a r before mid g z)
 
-  taken-done : r.number ≡ 0 → GivesTaken (take_scalar s a (length before)) (with_scalar r (get_or mid 0 nan)) before (set mid 0 nought)
+  taken_done : r.number ≡ 0 → GivesTaken (take_scalar s a (length before)) (with_scalar r (get_or mid 0 nan)) before (set mid 0 nought)
   unfolding take_scalar
-  taken-done z =
+  taken_done z =
       let w = copy_changed s a r before mid g without_scalar (set mid 0 nought) z (length-set a 0 nought) (set_laid (length a) mid 0 nought (some z) (copy_room s a r before mid g z)) in
       let first : get_or mid 0 nan ≡ get_or a 0 nan = rw (copy_laid s a r before mid g z) (get_or-append a (drop (length a) before) nan 0 (some z)) in
       let all = unless_done (λ k. nought) (refusal (kept_tests s a (length before))) 0 (get_or a 0 nan) (sym (accepted_kept s a (length before) (copy_accepted s a r before mid g z))) refl in
@@ -49,15 +49,15 @@ returns-then-number-ne-DONE c =
 pub bounds-out-0 : goal.bounds-out-0
 bounds-out-0 c =
     let s = c.args in
-    in-copy s.shape s.a.now c.set_dims-r.result s.out.now _ c.set_dims-r.ensures c.if-number-ne-DONE.false
+    in_copy s.shape s.a.now c.set_dims-r.result s.out.now _ c.set_dims-r.ensures c.if-number-ne-DONE.false
 
 pub bounds-out-0-2 : goal.bounds-out-0-2
 bounds-out-0-2 c =
     let s = c.args in
-    in-copy s.shape s.a.now c.set_dims-r.result s.out.now _ c.set_dims-r.ensures c.if-number-ne-DONE.false
+    in_copy s.shape s.a.now c.set_dims-r.result s.out.now _ c.set_dims-r.ensures c.if-number-ne-DONE.false
 
 pub returns : goal.returns
 unfolding of_bits of_fields
 returns c =
     let s = c.args in
-    taken-done s.shape s.a.now c.set_dims-r.result s.out.now _ c.set_dims-r.ensures c.if-number-ne-DONE.false
+    taken_done s.shape s.a.now c.set_dims-r.result s.out.now _ c.set_dims-r.ensures c.if-number-ne-DONE.false

@@ -35,11 +35,11 @@ parted b s n out = take s out ++ map (negated_if b) (take n (drop s out)) ++ dro
 
 -- What is not negated stays.
 parted_same : (s n : ℕ) (out : List Float) → out ≡ parted false s n out
-parted_same s n out = sym (ap (λ xs. take s out ++ xs ++ drop (s + n) out) (map-id (take n (drop s out))) ∙ rw (← take-add s n out) (take-append-drop (s + n) out))
+parted_same s n out = sym (ap (λ xs. take s out ++ xs ++ drop (s + n) out) (map_id (take n (drop s out))) ∙ rw (← take-add s n out) (take-append-drop (s + n) out))
   where
-    map-id : (xs : List Float) → map (negated_if false) xs ≡ xs
-    map-id [] = refl
-    map-id (x ∷ xs) = ap (λ ys. x ∷ ys) (map-id xs)
+    map_id : (xs : List Float) → map (negated_if false) xs ≡ xs
+    map_id [] = refl
+    map_id (x ∷ xs) = ap (λ ys. x ∷ ys) (map_id xs)
 
 module _ (d : ℕ) (xs : List Float) where
   turned_length : (rest : Bool) → length (turned rest d xs) ≡ 2 ^ d

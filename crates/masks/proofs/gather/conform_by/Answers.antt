@@ -1,35 +1,23 @@
 use mathlib.Core.Path.{◌≡◌, sym, ap, ◌∙◌}
-use Prim.Native.Nat.{◌+◌, ◌^◌, ◌≤◌}
+use Prim.Native.Nat.{ℕ, ◌+◌, ◌^◌, ◌≤◌}
 use native.Mathlib.Omega.{arith}
 use lib.ListN.{length}
 use lib.Seq.{length-take-le}
 use Rattle.masks.specs.Outcome.{laid}
 use Rattle.masks.proofs.OrderLaws.{blades_le}
 use Rattle.masks.proofs.ShapeLaws.{one, promoted_one, conformed_none, conformed_same, conformed_one}
-use Rattle.masks.proofs.gather.conform_by.Goals.{After-blades-count, Else-up-eq0}
+use Rattle.masks.proofs.gather.conform_by.Goals.{After-blades-count}
 use Rattle.masks.proofs.gather.conform_by.Goals as goal
 
 -- a promotion adds one dimension
-module _ (c : Else-up-eq0) where
-  more : c.args.dims + 1 ≤ 9
-  more = omega (arith, one c.args.up c.requires.0 c.if-up-eq0.false, c.requires.1)
-
-  few : 2 ^ (c.args.dims + 1) ≤ 512
-  few = blades_le (c.args.dims + 1) more
-
--- a promotion adds one dimension
-module _ (c : After-blades-count) where
-  more-at-After-blades-count : c.args.dims + 1 ≤ 9
-  more-at-After-blades-count = omega (arith, one c.args.up c.requires.0 c.if-up-eq0.false, c.requires.1)
-
-  few-at-After-blades-count : 2 ^ (c.args.dims + 1) ≤ 512
-  few-at-After-blades-count = blades_le (c.args.dims + 1) more-at-After-blades-count
+more : (up dims : ℕ) → up ≤ 1 → (up ≡ 0 → ⊥) → dims + up ≤ 9 → dims + 1 ≤ 9
+more up dims few some h = omega (arith, one up few some, h)
 
 -- what the second step rests on
 module _ (c : After-blades-count) where
   -- the buffer has as many numbers as there are blades
   enough : c.blades-count.result ≤ length c.promote-2.new.out
-  enough = omega (arith, c.blades-count.ensures, few-at-After-blades-count c, c.promote-2.auto.out)
+  enough = omega (arith, c.blades-count.ensures, blades_le (c.args.dims + 1) (more c.args.up c.args.dims c.requires.0 c.if-up-eq0.false c.requires.1), c.promote-2.auto.out)
 
 pub returns-then-up-eq0 : goal.returns-then-up-eq0
 returns-then-up-eq0 c =
@@ -41,7 +29,7 @@ pub promote-requires : goal.promote-requires
 promote-requires c =
     let p = c.requires in
     let r : 2 ^ (c.args.dims + 1) ≤ length c.args.out.now = omega (arith, p.4, ap (λ n. 2 ^ n) c.if-dims-new_dims.true) in
-    (omega (arith, more (goal.at.promote-requires c).Else-up-eq0), p.3, r)
+    (omega (arith, more c.args.up c.args.dims c.requires.0 c.if-up-eq0.false c.requires.1), p.3, r)
 
 pub returns-then-dims-new_dims : goal.returns-then-dims-new_dims
 returns-then-dims-new_dims c =
@@ -53,7 +41,7 @@ returns-then-dims-new_dims c =
     (promoted_one a.up a.dims a.a.now p.0 c.if-up-eq0.false ∙ sym (conformed_same a.up a.dims a.new_dims a.a.now p.0 e p.2 p.3))
 
 pub promote-requires-2 : goal.promote-requires-2
-promote-requires-2 c = (omega (arith, more (goal.at.promote-requires-2 c).Else-up-eq0), c.requires.3, few (goal.at.promote-requires-2 c).Else-up-eq0)
+promote-requires-2 c = (omega (arith, more c.args.up c.args.dims c.requires.0 c.if-up-eq0.false c.requires.1), c.requires.3, blades_le (c.args.dims + 1) (more c.args.up c.args.dims c.requires.0 c.if-up-eq0.false c.requires.1))
 
 pub slice_bounds-held-end : goal.slice_bounds-held-end
 slice_bounds-held-end c = enough c
@@ -64,7 +52,7 @@ slice_bounds-resize-end c = sym (length-take-le _ _ (enough (goal.at.slice_bound
 pub resize-requires-2 : goal.resize-requires-2
 resize-requires-2 c =
     let p = c.requires in
-    (more (goal.at.resize-requires-2 c).Else-up-eq0, p.2, length-take-le _ _ (enough (goal.at.resize-requires-2 c).After-blades-count) ∙ c.blades-count.ensures, p.4)
+    (more c.args.up c.args.dims c.requires.0 c.if-up-eq0.false c.requires.1, p.2, length-take-le _ _ (enough (goal.at.resize-requires-2 c).After-blades-count) ∙ c.blades-count.ensures, p.4)
 
 pub returns : goal.returns
 returns c =

@@ -13,7 +13,7 @@ use Rattle.masks.proofs.ListLaws.{laid_length}
 use Rattle.masks.proofs.OrderLaws.{size_zero, start_next}
 use Rattle.masks.proofs.BuildLaws.{start_one}
 use Rattle.masks.proofs.GradeParts.{part_within, below_within, size_both, promoted_begun, promoted_next, promoted_all}
-use Rattle.masks.proofs.gather.promote.Goals.{After-size_of-below, At-loop-g}
+use Rattle.masks.proofs.gather.promote.Goals.{At-loop-g}
 use Rattle.masks.proofs.gather.promote.Goals as goal
 
 -- what each turn rests on
@@ -51,49 +51,6 @@ module _ (c : At-loop-g) where
         omega
         (arith, kept, c.loop-g.invariant.1, c.loop-g.invariant.3, c.requires.2, part_within (d + 1) (g + 1) (omega arith), size_both d g)
 
--- what each turn rests on
-module _ (c : After-size_of-below) where
-  abbrev d-at-After-size_of-below : ℕ
-  d-at-After-size_of-below = c.args.dims
-
-  abbrev g-at-After-size_of-below : ℕ
-  g-at-After-size_of-below = c.loop-g.g
-
-  abbrev a-at-After-size_of-below : List Float
-  a-at-After-size_of-below = c.args.a.now
-
-  -- the output that the loop begins with
-  abbrev out-at-After-size_of-below : List Float
-  out-at-After-size_of-below = set c.args.out.now 0 (get_or a-at-After-size_of-below 0 nan)
-
-  long-at-After-size_of-below : length out-at-After-size_of-below ≡ length c.args.out.now
-  long-at-After-size_of-below = length-set c.args.out.now 0 (get_or a-at-After-size_of-below 0 nan)
-
-  -- the output keeps its length
-  kept-at-After-size_of-below : length c.loop-g.out ≡ length c.args.out.now
-  kept-at-After-size_of-below =
-      let xs : List ℕ = grades_below (d-at-After-size_of-below + 1) (g-at-After-size_of-below + 1) in
-      ap length c.loop-g.invariant.4
-      ∙ laid_length (map (promoted_coef d-at-After-size_of-below a-at-After-size_of-below) xs) out-at-After-size_of-below (omega (arith, long-at-After-size_of-below, length-map xs (promoted_coef d-at-After-size_of-below a-at-After-size_of-below), below_within (d-at-After-size_of-below + 1) (g-at-After-size_of-below + 1) (omega arith), c.requires.2)) ∙ long-at-After-size_of-below
-
-  -- the numbers of the next grade, and room-at-After-size_of-below for them
-  module _ (h : g-at-After-size_of-below ≤ d-at-After-size_of-below) where
-    part-at-After-size_of-below : c.loop-g.i + size d-at-After-size_of-below (g-at-After-size_of-below + 1) ≤ length a-at-After-size_of-below
-    part-at-After-size_of-below = omega (arith, c.loop-g.invariant.2, c.requires.1, part_within d-at-After-size_of-below (g-at-After-size_of-below + 1) (omega arith))
-
-    room-at-After-size_of-below : c.loop-g.k + (c.loop-g.below + size d-at-After-size_of-below (g-at-After-size_of-below + 1)) ≤ length c.loop-g.out
-    room-at-After-size_of-below =
-        omega
-        (arith, kept-at-After-size_of-below, c.loop-g.invariant.1, c.loop-g.invariant.3, c.requires.2, part_within (d-at-After-size_of-below + 1) (g-at-After-size_of-below + 1) (omega arith), size_both d-at-After-size_of-below g-at-After-size_of-below)
-
--- the same by the code's count
-module _ (c : After-size_of-below) where
-  fits : c.loop-g.i + c.size_of-below.result ≤ length (a-at-After-size_of-below c)
-  fits = omega (arith, c.size_of-below.ensures, part-at-After-size_of-below c (omega arith))
-
-  roomy : c.loop-g.k + c.loop-g.below + c.size_of-below.result ≤ length c.loop-g.out
-  roomy = omega (arith, c.size_of-below.ensures, room-at-After-size_of-below c (omega arith))
-
 pub bounds-a-0 : goal.bounds-a-0
 bounds-a-0 c = omega (arith, pow_pos c.args.dims)
 
@@ -119,13 +76,13 @@ overflow_add-k c = omega (arith, room (goal.at.overflow_add-k c).At-loop-g (omeg
 pub copy_part-requires : goal.copy_part-requires
 copy_part-requires c =
     let l = c.loop-g in
-    (fits (goal.at.copy_part-requires c).After-size_of-below, omega (arith, roomy (goal.at.copy_part-requires c).After-size_of-below, ap length c.clear_part.ensures, length-sets l.out l.k (replicate l.below nought)))
+    (omega (arith, c.size_of-below.ensures, part (goal.at.copy_part-requires c).At-loop-g (omega arith)), omega (arith, c.size_of-below.ensures, room (goal.at.copy_part-requires c).At-loop-g (omega arith), ap length c.clear_part.ensures, length-sets l.out l.k (replicate l.below nought)))
 
 pub overflow_add-i : goal.overflow_add-i
-overflow_add-i c = omega (arith, fits (goal.at.overflow_add-i c).After-size_of-below)
+overflow_add-i c = omega (arith, c.size_of-below.ensures, part (goal.at.overflow_add-i c).At-loop-g (omega arith))
 
 pub overflow_add-k-in-loop-g : goal.overflow_add-k-in-loop-g
-overflow_add-k-in-loop-g c = omega (arith, roomy (goal.at.overflow_add-k-in-loop-g c).After-size_of-below, kept (goal.at.overflow_add-k-in-loop-g c).At-loop-g)
+overflow_add-k-in-loop-g c = omega (arith, c.size_of-below.ensures, room (goal.at.overflow_add-k-in-loop-g c).At-loop-g (omega arith), kept (goal.at.overflow_add-k-in-loop-g c).At-loop-g)
 
 pub loop-g-preserved : goal.loop-g-preserved
 loop-g-preserved c =

@@ -7,26 +7,18 @@ use Rattle.masks.specs.Shape.{both_tests}
 use Rattle.masks.specs.Outcome.{refusal, no_room, pair_tests}
 use Rattle.masks.proofs.ShapeLaws.{second_room}
 use Rattle.masks.proofs.OutcomeLaws.{refused_already, refused_first, refused_later, passed}
-use Rattle.masks.proofs.shape.conform_refusal.Goals.{After-blades, Else-no-ne-DONE}
+use Rattle.masks.proofs.shape.conform_refusal.Goals.{After-blades}
 use Rattle.masks.proofs.shape.conform_refusal.Goals as goal
 
 nothing : refusal [] ≡ 0
 unfolding refusal
 nothing = refl
 
--- The tests of the pair refuse nothing.
-unrefused : (c : Else-no-ne-DONE) → let a = c.args in refusal (pair_tests a.dims a.other a.res a.count a.count_right a.room) ≡ 0
-unrefused c = sym c.pair_refusal-no.ensures ∙ c.if-no-ne-DONE.false
-
--- The tests of the pair refuse nothing.
-unrefused-at-After-blades : (c : After-blades) → let a = c.args in refusal (pair_tests a.dims a.other a.res a.count a.count_right a.room) ≡ 0
-unrefused-at-After-blades c = sym c.pair_refusal-no.ensures ∙ c.if-no-ne-DONE.false
-
 -- The room on the right decides.
 decided : (b : After-blades) → let a = b.args in refusal (both_tests a.dims a.other a.res a.count a.count_right a.room a.room_right) ≡ refusal (no_room a.room_right (2 ^ a.res) ∷ [])
 decided b =
     let a = b.args in
-    second_room a.dims a.other a.res a.count a.count_right a.room a.room_right (unrefused-at-After-blades b)
+    second_room a.dims a.other a.res a.count a.count_right a.room a.room_right (sym b.pair_refusal-no.ensures ∙ b.if-no-ne-DONE.false)
 
 pub returns-then-no-ne-DONE : goal.returns-then-no-ne-DONE
 returns-then-no-ne-DONE c =
@@ -37,7 +29,7 @@ returns-then-no-ne-DONE c =
 pub blades-requires : goal.blades-requires
 blades-requires c =
     let a = c.args in
-    (passed a.dims a.other a.res a.count a.count_right a.room (unrefused c)).result
+    (passed a.dims a.other a.res a.count a.count_right a.room (sym c.pair_refusal-no.ensures ∙ c.if-no-ne-DONE.false)).result
 
 pub returns-then-room_right-blades : goal.returns-then-room_right-blades
 returns-then-room_right-blades c =

@@ -16,8 +16,8 @@ module _ (t : List ℕ) (a b c : ℕ) (h : length t ≡ 3) where
   at_second : get_or t 0 0 ≡ a → (get_or t 1 0 ≡ b → ⊥) → same t (a ∷ b ∷ c ∷ []) ≡ false
   at_second e g = same_three t a b c h ∙ (rw (eq-eqb _ a e, ne_eqb _ b g))
 
-  at-third : get_or t 0 0 ≡ a → get_or t 1 0 ≡ b → same t (a ∷ b ∷ c ∷ []) ≡ eqb (get_or t 2 0) c
-  at-third e g = same_three t a b c h ∙ (rw (eq-eqb _ a e, eq-eqb _ b g, and-true (eqb (get_or t 2 0) c)))
+  at_third : get_or t 0 0 ≡ a → get_or t 1 0 ≡ b → same t (a ∷ b ∷ c ∷ []) ≡ eqb (get_or t 2 0) c
+  at_third e g = same_three t a b c h ∙ (rw (eq-eqb _ a e, eq-eqb _ b g, and-true (eqb (get_or t 2 0) c)))
 
 pub returns-then-t-ne3 : goal.returns-then-t-ne3
 returns-then-t-ne3 c = let a = c.args in sym (same_not a.t.now (a.a ∷ a.b ∷ a.c ∷ []) c.if-t-ne3.true)
@@ -35,4 +35,4 @@ returns-then-t-b c =
 pub returns : goal.returns
 returns c =
     let a = c.args in
-    sym (at-third a.t.now a.a a.b a.c c.if-t-ne3.false c.if-t-a.false c.if-t-b.false)
+    sym (at_third a.t.now a.a a.b a.c c.if-t-ne3.false c.if-t-a.false c.if-t-b.false)

@@ -11,13 +11,13 @@ use Rattle.masks.proofs.TextScan.{rest_all, same_two, same_not}
 use Rattle.masks.proofs.text.read_cl.Goals as goal
 
 module _ (t : List ℕ) where
-  not-cl : same (take 2 t) (67 ∷ 108 ∷ []) ≡ false → read_cl t ≡ refused_read 7
+  not_cl : same (take 2 t) (67 ∷ 108 ∷ []) ≡ false → read_cl t ≡ refused_read 7
   unfolding read_cl
-  not-cl e = rw e
+  not_cl e = rw e
 
-  is-cl : same (take 2 t) (67 ∷ 108 ∷ []) ≡ true → read_cl t ≡ spec_of (trimmed (drop 2 t))
+  is_cl : same (take 2 t) (67 ∷ 108 ∷ []) ≡ true → read_cl t ≡ spec_of (trimmed (drop 2 t))
   unfolding read_cl
-  is-cl e = rw e
+  is_cl e = rw e
 
   short : length t < 2 → same (take 2 t) (67 ∷ 108 ∷ []) ≡ false
   short h = same_not (take 2 t) (67 ∷ 108 ∷ []) (λ e. omega (arith, length-take 2 t))
@@ -35,22 +35,22 @@ module _ (t : List ℕ) where
 pub returns-then-t-lt2 : goal.returns-then-t-lt2
 returns-then-t-lt2 c =
     let a = c.args in
-    c.refused_read.ensures ∙ sym (not-cl a.t.now (short a.t.now c.if-t-lt2.true))
+    c.refused_read.ensures ∙ sym (not_cl a.t.now (short a.t.now c.if-t-lt2.true))
 
 pub returns-then-t-ne67 : goal.returns-then-t-ne67
 returns-then-t-ne67 c =
     let a = c.args in
-    c.refused_read-then-t-ne67.ensures ∙ sym (not-cl a.t.now (at_first a.t.now c.if-t-lt2.false c.if-t-ne67.true))
+    c.refused_read-then-t-ne67.ensures ∙ sym (not_cl a.t.now (at_first a.t.now c.if-t-lt2.false c.if-t-ne67.true))
 
 pub returns-then-t-ne108 : goal.returns-then-t-ne108
 returns-then-t-ne108 c =
     let a = c.args in
     c.refused_read-then-t-ne108.ensures
-    ∙ sym (not-cl a.t.now (at_second a.t.now c.if-t-lt2.false c.if-t-ne67.false c.if-t-ne108.true))
+    ∙ sym (not_cl a.t.now (at_second a.t.now c.if-t-lt2.false c.if-t-ne67.false c.if-t-ne108.true))
 
 pub returns : goal.returns
 returns c =
     let a = c.args in
     c.read_spec.ensures
     ∙ ap spec_of (c.trim.ensures ∙ ap trimmed (rest_all 2 a.t.now))
-    ∙ sym (is-cl a.t.now (at_both a.t.now c.if-t-lt2.false c.if-t-ne67.false c.if-t-ne108.false))
+    ∙ sym (is_cl a.t.now (at_both a.t.now c.if-t-lt2.false c.if-t-ne67.false c.if-t-ne108.false))

@@ -18,16 +18,16 @@ first_is a = a.octet_in-first.ensures ∙ ap octet a.first_part.ensures
 second_is : (a : After-after_part-rest) → a.after_part-second.result.now ≡ after_part (text a)
 second_is a = a.after_part-second.ensures
 
-third-is : (a : After-after_part-rest) → a.after_part-third.result.now ≡ after_part (after_part (text a))
-third-is a = a.after_part-third.ensures ∙ ap after_part (second_is a)
+third_is : (a : After-after_part-rest) → a.after_part-third.result.now ≡ after_part (after_part (text a))
+third_is a = a.after_part-third.ensures ∙ ap after_part (second_is a)
 
-rest-is : (a : After-after_part-rest) → a.after_part-rest.result.now ≡ after_part (after_part (after_part (text a)))
-rest-is a = a.after_part-rest.ensures ∙ ap after_part (third-is a)
+rest_is : (a : After-after_part-rest) → a.after_part-rest.result.now ≡ after_part (after_part (after_part (text a)))
+rest_is a = a.after_part-rest.ensures ∙ ap after_part (third_is a)
 
 pub returns-then-first_part-ne0 : goal.returns-then-first_part-ne0
 returns-then-first_part-ne0 c =
     let e = sym (first_is (goal.at.returns-then-first_part-ne0 c).After-after_part-rest) ∙ c.in-Is.is in
-    let k = ap length (c.first_part-in-Is.ensures ∙ ap part (rest-is (goal.at.returns-then-first_part-ne0 c).After-after_part-rest)) in
+    let k = ap length (c.first_part-in-Is.ensures ∙ ap part (rest_is (goal.at.returns-then-first_part-ne0 c).After-after_part-rest)) in
     c.refused_read-then-first_part-ne0.ensures ∙ sym (spec_four (text (goal.at.returns-then-first_part-ne0 c).After-after_part-rest) c.in-Is.p e (λ q. c.if-first_part-ne0.true (k ∙ q)))
 
 pub returns-in-Missing : goal.returns-in-Missing
@@ -36,9 +36,9 @@ returns-in-Missing c = c.refused_read.ensures ∙ sym (spec_missing (text (goal.
 pub returns-else-first_part-ne0 : goal.returns-else-first_part-ne0
 returns-else-first_part-ne0 c =
     let e = sym (first_is (goal.at.returns-else-first_part-ne0 c).After-after_part-rest) ∙ c.in-Is.is in
-    let k = ap length (c.first_part-in-Is.ensures ∙ ap part (rest-is (goal.at.returns-else-first_part-ne0 c).After-after_part-rest)) in
+    let k = ap length (c.first_part-in-Is.ensures ∙ ap part (rest_is (goal.at.returns-else-first_part-ne0 c).After-after_part-rest)) in
     let s = c.octet_or_zero.ensures ∙ ap (λ x. or_zero (octet x)) (c.first_part-in-Is-2.ensures ∙ ap part (second_is (goal.at.returns-else-first_part-ne0 c).After-after_part-rest)) in
-    let t = c.octet_or_zero-in-Is.ensures ∙ ap (λ x. or_zero (octet x)) (c.first_part-in-Is-3.ensures ∙ ap part (third-is (goal.at.returns-else-first_part-ne0 c).After-after_part-rest)) in
+    let t = c.octet_or_zero-in-Is.ensures ∙ ap (λ x. or_zero (octet x)) (c.first_part-in-Is-3.ensures ∙ ap part (third_is (goal.at.returns-else-first_part-ne0 c).After-after_part-rest)) in
     c.read_as.ensures
     ∙ ap₂ (λ n z. read_as (Cl c.in-Is.p n z)) s t
     ∙ sym (spec_read (text (goal.at.returns-else-first_part-ne0 c).After-after_part-rest) c.in-Is.p e (sym k ∙ c.if-first_part-ne0.false))

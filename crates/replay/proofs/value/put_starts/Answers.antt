@@ -23,8 +23,8 @@ use Rattle.replay.proofs.value.put_starts.Goals as goal
 
 module _ (ss : List Shape) (n i : ℕ) (few : n ≤ length ss) (small : any_above_nine (take n ss) ≡ false) (h : i < n) where
   -- the next shape's dimensions
-  dims-small : (shape_at ss i).dims ≤ 9
-  dims-small =
+  dims_small : (shape_at ss i).dims ≤ 9
+  dims_small =
       rw (← (get_or-take n ss i (shape_of 0 Vanilla) h)) (dims_at i (take n ss) (omega (arith, length-take-le n ss few)) small)
 
   -- the sum so far
@@ -35,7 +35,7 @@ module _ (ss : List Shape) (n i : ℕ) (few : n ≤ length ss) (small : any_abov
 
   -- the next shape's coefficients
   count_next : (c : Count) → c ≡ blade_count (shape_at ss i).dims → c.count ≡ 2 ^ (shape_at ss i).dims
-  count_next c e = blades_counted e dims-small
+  count_next c e = blades_counted e dims_small
 
 -- start i written at i, one more is written
 one_more : (ss : List Shape) (i sum : ℕ) (starts : List ℕ) → i < length starts → sum ≡ start_of ss i → Written ss i starts → Written ss (i + 1) (set starts i sum)
@@ -62,7 +62,7 @@ overflow_add-sum c =
       l.invariant.2,
       start_small ss c.args.n l.i few c.requires.1 h,
       count_next ss c.args.n l.i few c.requires.1 h c.blade_count-sum.result c.blade_count-sum.ensures,
-      blades_le (shape_at ss l.i).dims (dims-small ss c.args.n l.i few c.requires.1 h),
+      blades_le (shape_at ss l.i).dims (dims_small ss c.args.n l.i few c.requires.1 h),
     )
 
 pub loop-i-preserved : goal.loop-i-preserved

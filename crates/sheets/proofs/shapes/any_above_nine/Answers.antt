@@ -16,8 +16,8 @@ abbrev at : List Shape → ℕ → Shape
 at ss i = get_or ss i (shape_of 0 Vanilla)
 
 module _ (ss : List Shape) (i : ℕ) where
-  one-above : (n : ℕ) → i < n → n ≤ length ss → 9 < (at ss i).dims → true ≡ any_above_nine (take n ss)
-  one-above n h l g =
+  one_above : (n : ℕ) → i < n → n ≤ length ss → 9 < (at ss i).dims → true ≡ any_above_nine (take n ss)
+  one_above n h l g =
       sym (above_at i (take n ss) (omega (arith, length-take-le n ss l)) (rw (get_or-take n ss i (shape_of 0 Vanilla) h) g))
 
 pub loop-i-init : goal.loop-i-init
@@ -28,7 +28,7 @@ pub returns-then-s-gt-MAX_DIMS : goal.returns-then-s-gt-MAX_DIMS
 returns-then-s-gt-MAX_DIMS c =
     let l = c.loop-i in
     let h : length c.args.shapes.held ≡ 64 = omega arith in
-    one-above c.args.shapes.held l.i c.args.n (omega arith) (omega arith) c.if-s-gt-MAX_DIMS.true
+    one_above c.args.shapes.held l.i c.args.n (omega arith) (omega arith) c.if-s-gt-MAX_DIMS.true
 
 pub loop-i-preserved : goal.loop-i-preserved
 loop-i-preserved c =

@@ -20,16 +20,16 @@ abbrev at : List Shape → ℕ → Shape
 at ss i = get_or ss i (shape_of 0 Vanilla)
 
 module _ (ss : List Shape) (n i : ℕ) (few : n ≤ length ss) (small : any_above_nine (take n ss) ≡ false) where
-  dims-small : i < n → (at ss i).dims ≤ 9
-  dims-small h =
+  dims_small : i < n → (at ss i).dims ≤ 9
+  dims_small h =
       rw (← (get_or-take n ss i (shape_of 0 Vanilla) h)) (dims_at i (take n ss) (omega (arith, length-take-le n ss few)) small)
 
   -- the next shape's coefficients
   count_next : (c : Count) → i < n → c ≡ blade_count (at ss i).dims → c.count ≡ 2 ^ (at ss i).dims
-  count_next c h e = blades_counted e (dims-small h)
+  count_next c h e = blades_counted e (dims_small h)
 
-  sum-small : i ≤ n → blade_total (take i ss) ≤ 512 * i
-  sum-small h =
+  sum_small : i ≤ n → blade_total (take i ss) ≤ 512 * i
+  sum_small h =
       let none : any_above_nine (take i ss) ≡ false = rw (← (take-take i n ss h)) (above_take i (take n ss) small) in
       omega (arith, blade_total-le (take i ss) none, length-take-le i ss (omega arith))
 
@@ -48,9 +48,9 @@ overflow_add-sum c =
     omega (
       arith,
       l.invariant.1,
-      sum-small ss c.args.n l.i few c.requires.1 (omega arith),
+      sum_small ss c.args.n l.i few c.requires.1 (omega arith),
       count_next ss c.args.n l.i few c.requires.1 c.blade_count-count.result (omega arith) c.blade_count-count.ensures,
-      blades_le (at ss l.i).dims (dims-small ss c.args.n l.i few c.requires.1 (omega arith)),
+      blades_le (at ss l.i).dims (dims_small ss c.args.n l.i few c.requires.1 (omega arith)),
     )
 
 pub loop-i-preserved : goal.loop-i-preserved

@@ -12,18 +12,18 @@ use Rattle.sheets.proofs.shapes.put_shape.Goals as goal
 
 module _ (out six : List ℕ) (width at i : ℕ) where
   -- the first byte of what is left, and then the others
-  left-next : i < width → width ≤ length six → sets out (at + i) (drop i (take width six)) ≡ sets (set out (at + i) (get_or six i 0)) (at + (i + 1)) (drop (i + 1) (take width six))
-  left-next h l =
+  left_next : i < width → width ≤ length six → sets out (at + i) (drop i (take width six)) ≡ sets (set out (at + i) (get_or six i 0)) (at + (i + 1)) (drop (i + 1) (take width six))
+  left_next h l =
       let next : suc (at + i) ≡ at + (i + 1) = omega arith in
       rw (drop-cons (take width six) i 0 (omega (arith, length-take-le width six l)), get_or-take width six i 0 h, add-one i)
       (ap (λ (k : ℕ). sets (set out (at + i) (get_or six i 0)) k (drop (suc i) (take width six))) (rw (add-one i) at next))
 
-  left-none : width ≤ i → width ≤ length six → sets out (at + i) (drop i (take width six)) ≡ out
-  left-none h l = rw (drop_of_length-le (take width six) {i = i} (omega (arith, length-take-le width six l)))
+  left_none : width ≤ i → width ≤ length six → sets out (at + i) (drop i (take width six)) ≡ out
+  left_none h l = rw (drop_of_length-le (take width six) {i = i} (omega (arith, length-take-le width six l)))
 
 -- there are six bytes
-six-bytes : (c : After-shape_bytes-six) → length c.shape_bytes-six.result ≡ 6
-six-bytes c = ap length c.shape_bytes-six.ensures ∙ shape_bytes-length c.args.shape
+six_bytes : (c : After-shape_bytes-six) → length c.shape_bytes-six.result ≡ 6
+six_bytes c = ap length c.shape_bytes-six.ensures ∙ shape_bytes-length c.args.shape
 
 pub shape_bytes-six-requires : goal.shape_bytes-six-requires
 shape_bytes-six-requires c = tt
@@ -38,7 +38,7 @@ pub loop-i-preserved : goal.loop-i-preserved
 loop-i-preserved c =
     let s = c.args in
     let l = c.loop-i in
-    (length-set l.out (s.at + l.i) _ ∙ l.invariant.0, sym (left-next l.out c.shape_bytes-six.result s.width s.at l.i (omega arith) (omega (arith, six-bytes (goal.at.loop-i-preserved c).After-shape_bytes-six))) ∙ l.invariant.1)
+    (length-set l.out (s.at + l.i) _ ∙ l.invariant.0, sym (left_next l.out c.shape_bytes-six.result s.width s.at l.i (omega arith) (omega (arith, six_bytes (goal.at.loop-i-preserved c).After-shape_bytes-six))) ∙ l.invariant.1)
 
 pub shape_of-out : goal.shape_of-out
 shape_of-out c = c.loop-i.invariant.0
@@ -47,6 +47,6 @@ pub returns : goal.returns
 returns c =
     let s = c.args in
     let l = c.loop-i in
-    sym (left-none l.out c.shape_bytes-six.result s.width s.at l.i (omega arith) (omega (arith, six-bytes (goal.at.returns c).After-shape_bytes-six)))
+    sym (left_none l.out c.shape_bytes-six.result s.width s.at l.i (omega arith) (omega (arith, six_bytes (goal.at.returns c).After-shape_bytes-six)))
     ∙ l.invariant.1
     ∙ ap (λ (six : List ℕ). sets s.out.now s.at (take s.width six)) c.shape_bytes-six.ensures

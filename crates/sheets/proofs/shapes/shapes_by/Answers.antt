@@ -11,7 +11,7 @@ use Rattle.masks.specs.ShapeBytes.{shape_from}
 use Rattle.masks.proofs.ListLaws.{front, front_step, front_all}
 use Rattle.sheets.specs.Shapes.{blank_shapes, shapes_of, said_shapes}
 use Rattle.sheets.proofs.ShapesLaws.{blank_length, said_fits, said_shapes-length, said_shapes-at}
-use Rattle.sheets.proofs.shapes.shapes_by.Goals.{After-listed_count-n, At-loop-i}
+use Rattle.sheets.proofs.shapes.shapes_by.Goals.{At-loop-i}
 use Rattle.sheets.proofs.shapes.shapes_by.Goals as goal
 
 -- the shapes that are held
@@ -34,19 +34,11 @@ all_laid w b i held e h =
     ap₂ (λ (count : ℕ) (l : List Shape). record { count = count; held = l }) (sym (said_shapes-length w b))
     (h ∙ front_all i (kept w b) blank_shapes (kept_length w b ∙ sym e))
 
--- the loop lays as many as there are, and no more than are held
-few : (c : After-listed_count-n) → c.listed_count-n.result ≡ min (length c.args.bytes.now / c.args.width) 64
-few c = c.listed_count-n.ensures
-
--- the loop lays as many as there are, and no more than are held
-few-at-At-loop-i : (c : At-loop-i) → c.listed_count-n.result ≡ min (length c.args.bytes.now / c.args.width) 64
-few-at-At-loop-i c = c.listed_count-n.ensures
-
 -- shape i stands in the bytes
 stands : (c : At-loop-i) → c.loop-i.i < c.listed_count-n.result → c.args.width * c.loop-i.i + c.args.width ≤ length c.args.bytes.now
 stands c h =
     let a = c.args in
-    said_fits a.width c.loop-i.i (length a.bytes.now) (omega (arith, few-at-At-loop-i c))
+    said_fits a.width c.loop-i.i (length a.bytes.now) (omega (arith, c.listed_count-n.ensures))
 
 pub listed_count-n-requires : goal.listed_count-n-requires
 listed_count-n-requires c = tt
@@ -64,21 +56,21 @@ pub shape_at-requires : goal.shape_at-requires
 shape_at-requires c = omega (arith, stands (goal.at.shape_at-requires c).At-loop-i (omega arith))
 
 pub offset_bounds-held-i : goal.offset_bounds-held-i
-offset_bounds-held-i c = omega (arith, few (goal.at.offset_bounds-held-i c).After-listed_count-n)
+offset_bounds-held-i c = omega (arith, c.listed_count-n.ensures)
 
 pub bounds-held-i : goal.bounds-held-i
-bounds-held-i c = omega (arith, few (goal.at.bounds-held-i c).After-listed_count-n)
+bounds-held-i c = omega (arith, c.listed_count-n.ensures)
 
 pub overflow_add-i : goal.overflow_add-i
-overflow_add-i c = omega (arith, few (goal.at.overflow_add-i c).After-listed_count-n)
+overflow_add-i c = omega (arith, c.listed_count-n.ensures)
 
 pub loop-i-preserved : goal.loop-i-preserved
 loop-i-preserved c =
     let l = c.loop-i in
-    (omega arith, one_more c.args.width c.args.bytes.now l.i l.held c.shape_at.result c.requires.0 (omega (arith, few (goal.at.loop-i-preserved c).After-listed_count-n)) l.invariant.1 c.shape_at.ensures)
+    (omega arith, one_more c.args.width c.args.bytes.now l.i l.held c.shape_at.result c.requires.0 (omega (arith, c.listed_count-n.ensures)) l.invariant.1 c.shape_at.ensures)
 
 pub returns : goal.returns
 returns c =
     let l = c.loop-i in
     let a = c.args in
-    all_laid a.width a.bytes.now l.i l.held (omega (arith, few (goal.at.returns c).After-listed_count-n)) l.invariant.1
+    all_laid a.width a.bytes.now l.i l.held (omega (arith, c.listed_count-n.ensures)) l.invariant.1

@@ -20,39 +20,39 @@ module _ (s : Shapes) (n i : ℕ) (held : length s.held ≡ 64) (counted : n ≡
   first : listed_shapes s ≡ take n s.held
   first = rw counted (sym (listed_most s held))
 
-  first-length : length (take n s.held) ≡ n
-  first-length = length-take-le n s.held (omega arith)
+  first_length : length (take n s.held) ≡ n
+  first_length = length-take-le n s.held (omega arith)
 
-  value-above : any_above_nine (take n s.held) ≡ true → value_at s i ≡ refused_place 1
+  value_above : any_above_nine (take n s.held) ≡ true → value_at s i ≡ refused_place 1
   unfolding value_at unless refusal
-  value-above e = rw (first, e)
+  value_above e = rw (first, e)
 
   module _ (small : any_above_nine (take n s.held) ≡ false) where
-    value-past : n ≤ i → value_at s i ≡ refused_place 2
+    value_past : n ≤ i → value_at s i ≡ refused_place 2
     unfolding value_at unless refusal
-    value-past h = rw (first, small, first-length, le-leb n i h)
+    value_past h = rw (first, small, first_length, le-leb n i h)
 
     module _ (h : i < n) where
       value_before : any_above_nine (take i s.held) ≡ false
       value_before = rw (← (take-take i n s.held (omega arith))) (above_take i (take n s.held) small)
 
-      value-listed : (k : ℕ) → k ≡ blade_total (take i s.held) → record { number = 0; shape = get_or s.held i (shape_of 0 Vanilla); start = k } ≡ value_at s i
+      value_listed : (k : ℕ) → k ≡ blade_total (take i s.held) → record { number = 0; shape = get_or s.held i (shape_of 0 Vanilla); start = k } ≡ value_at s i
       unfolding value_at unless refusal
-      value-listed k e = rw (first, small, first-length, lt-leb n i h, e, get_or-take n s.held i (shape_of 0 Vanilla) h, take-take i n s.held (omega arith))
+      value_listed k e = rw (first, small, first_length, lt-leb n i h, e, get_or-take n s.held i (shape_of 0 Vanilla) h, take-take i n s.held (omega arith))
 
 pub returns-then-any_above_nine : goal.returns-then-any_above_nine
 returns-then-any_above_nine c =
     let listed = c.listed_count-n in
     let above = c.any_above_nine in
     c.refused_place.ensures
-    ∙ sym (value-above c.args.shapes listed.result c.args.index (omega arith) listed.ensures (sym above.ensures ∙ c.if-any_above_nine.true))
+    ∙ sym (value_above c.args.shapes listed.result c.args.index (omega arith) listed.ensures (sym above.ensures ∙ c.if-any_above_nine.true))
 
 pub returns-then-n-index : goal.returns-then-n-index
 returns-then-n-index c =
     let listed = c.listed_count-n in
     let above = c.any_above_nine in
     c.refused_place-then-n-index.ensures
-    ∙ sym (value-past c.args.shapes listed.result c.args.index (omega arith) listed.ensures (sym above.ensures ∙ c.if-any_above_nine.false) c.if-n-index.true)
+    ∙ sym (value_past c.args.shapes listed.result c.args.index (omega arith) listed.ensures (sym above.ensures ∙ c.if-any_above_nine.false) c.if-n-index.true)
 
 pub blade_total-start-requires : goal.blade_total-start-requires
 blade_total-start-requires c =
@@ -66,5 +66,5 @@ pub returns : goal.returns
 returns c =
     let listed = c.listed_count-n in
     let above = c.any_above_nine in
-    value-listed c.args.shapes listed.result c.args.index (omega arith) listed.ensures (sym above.ensures ∙ c.if-any_above_nine.false)
+    value_listed c.args.shapes listed.result c.args.index (omega arith) listed.ensures (sym above.ensures ∙ c.if-any_above_nine.false)
     c.if-n-index.false c.blade_total-start.result c.blade_total-start.ensures

@@ -7,7 +7,7 @@ use Rattle.masks.specs.Shape.{promotes, conformed, conformed_shape, conform_to}
 use Rattle.masks.proofs.ShapeLaws.{promotes_le, promoted_small}
 use Rattle.masks.proofs.OrderLaws.{none_counted}
 use Rattle.masks.proofs.OutcomeLaws.{Taken, taken, gives_refused, gives_done, checked, result_tests_same}
-use Rattle.masks.proofs.shape.Shape.conform_to.Goals.{After-promotion-up, After-refusal_of-no, Else-no-ne-DONE}
+use Rattle.masks.proofs.shape.Shape.conform_to.Goals.{After-promotion-up, After-refusal_of-no}
 use Rattle.masks.proofs.shape.Shape.conform_to.Goals as goal
 
 few : (c : After-promotion-up) → c.promotion-up.result ≤ 1
@@ -36,37 +36,9 @@ module _ (c : After-refusal_of-no) where
   numbered : c.refusal_of-no.result ≡ refusal (result_tests own dims (length c.args.a.now) (length c.args.out.now) (2 ^ dims))
   numbered = number ∙ result_tests_same own c.larger-n.result dims (length c.args.a.now) (length c.args.out.now) same
 
-  abbrev Ok : Type 0
-  Ok = Taken own c.larger-n.result (length c.args.a.now) (length c.args.out.now) (2 ^ c.larger-n.result)
-
--- The code's number is the definition's.
-module _ (c : Else-no-ne-DONE) where
-  abbrev own-at-Else-no-ne-DONE : ℕ
-  own-at-Else-no-ne-DONE = c.args.self.dims
-
-  abbrev dims-at-Else-no-ne-DONE : ℕ
-  dims-at-Else-no-ne-DONE = max (own-at-Else-no-ne-DONE + promotes c.args.self.flavor c.args.other.flavor) c.args.other.dims
-
-  grown-at-Else-no-ne-DONE : own-at-Else-no-ne-DONE ≤ 9 → c.promoted_dims.result ≡ own-at-Else-no-ne-DONE + c.promotion-up.result
-  grown-at-Else-no-ne-DONE = promoted_small own-at-Else-no-ne-DONE _ _ c.promoted_dims.ensures
-
-  same-at-Else-no-ne-DONE : own-at-Else-no-ne-DONE ≤ 9 → c.larger-n.result ≡ dims-at-Else-no-ne-DONE
-  same-at-Else-no-ne-DONE h = c.larger-n.ensures ∙ ap (λ n. max n c.args.other.dims) (grown-at-Else-no-ne-DONE h ∙ ap (λ u. own-at-Else-no-ne-DONE + u) c.promotion-up.ensures)
-
-  number-at-Else-no-ne-DONE : c.refusal_of-no.result ≡ refusal (result_tests own-at-Else-no-ne-DONE c.larger-n.result (length c.args.a.now) (length c.args.out.now) (2 ^ c.larger-n.result))
-  number-at-Else-no-ne-DONE =
-      checked _ own-at-Else-no-ne-DONE c.larger-n.result (length c.args.a.now) (length c.args.out.now) _ c.refusal_of-no.ensures (none_counted c.blades_or_none.ensures)
-
-  numbered-at-Else-no-ne-DONE : c.refusal_of-no.result ≡ refusal (result_tests own-at-Else-no-ne-DONE dims-at-Else-no-ne-DONE (length c.args.a.now) (length c.args.out.now) (2 ^ dims-at-Else-no-ne-DONE))
-  numbered-at-Else-no-ne-DONE = number-at-Else-no-ne-DONE ∙ result_tests_same own-at-Else-no-ne-DONE c.larger-n.result dims-at-Else-no-ne-DONE (length c.args.a.now) (length c.args.out.now) same-at-Else-no-ne-DONE
-
-  abbrev Ok-at-Else-no-ne-DONE : Type 0
-  Ok-at-Else-no-ne-DONE = Taken own-at-Else-no-ne-DONE c.larger-n.result (length c.args.a.now) (length c.args.out.now) (2 ^ c.larger-n.result)
-
--- The call is not refused.
-ok : (c : Else-no-ne-DONE) → Ok-at-Else-no-ne-DONE c
-ok c =
-    taken (own-at-Else-no-ne-DONE c) c.larger-n.result (length c.args.a.now) (length c.args.out.now) _ (sym (number-at-Else-no-ne-DONE c) ∙ c.if-no-ne-DONE.false)
+  -- The call is not refused.
+  ok : c.refusal_of-no.result ≡ 0 → Taken own c.larger-n.result (length c.args.a.now) (length c.args.out.now) (2 ^ c.larger-n.result)
+  ok z = taken own c.larger-n.result (length c.args.a.now) (length c.args.out.now) _ (sym number ∙ z)
 
 pub promoted_dims-requires : goal.promoted_dims-requires
 promoted_dims-requires c = few c
@@ -77,7 +49,7 @@ returns-then-no-ne-DONE c = gives_refused _ _ _ _ _ (numbered (goal.at.returns-t
 
 pub conform_one-requires : goal.conform_one-requires
 conform_one-requires c =
-    let t = ok (goal.at.conform_one-requires c).Else-no-ne-DONE in
+    let t = ok (goal.at.conform_one-requires c).After-refusal_of-no c.if-no-ne-DONE.false in
     record { up_bound = (few (goal.at.conform_one-requires c).After-promotion-up, omega (arith, t.result, c.larger-n.ensures, grown (goal.at.conform_one-requires c).After-refusal_of-no t.small), t.result, t.counted, t.roomy); up_value = λ e. omega (arith, e, c.larger-n.ensures, grown (goal.at.conform_one-requires c).After-refusal_of-no t.small) }
 
 pub returns : goal.returns
@@ -85,7 +57,7 @@ unfolding conform_to
 returns c =
     let a = c.args in
     let e = c.promotion-up.ensures in
-    let n = same (goal.at.returns c).After-refusal_of-no (ok (goal.at.returns c).Else-no-ne-DONE).small in
+    let n = same (goal.at.returns c).After-refusal_of-no (ok (goal.at.returns c).After-refusal_of-no c.if-no-ne-DONE.false).small in
     gives_done _ _ _ _ _ _ (numbered (goal.at.returns c).After-refusal_of-no) c.if-no-ne-DONE.false
     (c.done.ensures
     ∙ ap (λ x. record { number = 0; shape = x }) (c.conformed.ensures ∙ ap₂ (λ u n. conformed_shape u a.self n) e n))

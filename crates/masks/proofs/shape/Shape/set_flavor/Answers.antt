@@ -7,7 +7,7 @@ use Rattle.masks.specs.Shape.{promotes, conformed, set_flavor}
 use Rattle.masks.proofs.ShapeLaws.{conformed_same, promotes_le, promoted_small}
 use Rattle.masks.proofs.OrderLaws.{none_counted}
 use Rattle.masks.proofs.OutcomeLaws.{Taken, taken, gives_refused, gives_done, checked, result_tests_same}
-use Rattle.masks.proofs.shape.Shape.set_flavor.Goals.{After-promotion-up, After-refusal_of-no, Else-no-ne-DONE}
+use Rattle.masks.proofs.shape.Shape.set_flavor.Goals.{After-promotion-up, After-refusal_of-no}
 use Rattle.masks.proofs.shape.Shape.set_flavor.Goals as goal
 
 few : (c : After-promotion-up) → c.promotion-up.result ≤ 1
@@ -31,26 +31,9 @@ module _ (c : After-refusal_of-no) where
       checked _ own c.promoted_dims-n.result (length c.args.a.now) (length c.args.out.now) _ c.refusal_of-no.ensures (none_counted c.blades_or_none.ensures)
       ∙ result_tests_same own c.promoted_dims-n.result dims (length c.args.a.now) (length c.args.out.now) same
 
--- The code's number is the definition's.
-module _ (c : Else-no-ne-DONE) where
-  abbrev own-at-Else-no-ne-DONE : ℕ
-  own-at-Else-no-ne-DONE = c.args.self.dims
-
-  abbrev dims-at-Else-no-ne-DONE : ℕ
-  dims-at-Else-no-ne-DONE = own-at-Else-no-ne-DONE + promotes c.args.self.flavor c.args.flavor
-
-  same-at-Else-no-ne-DONE : own-at-Else-no-ne-DONE ≤ 9 → c.promoted_dims-n.result ≡ dims-at-Else-no-ne-DONE
-  same-at-Else-no-ne-DONE l = promoted_small own-at-Else-no-ne-DONE _ _ c.promoted_dims-n.ensures l ∙ ap (λ u. own-at-Else-no-ne-DONE + u) c.promotion-up.ensures
-
-  numbered-at-Else-no-ne-DONE : c.refusal_of-no.result ≡ refusal (result_tests own-at-Else-no-ne-DONE dims-at-Else-no-ne-DONE (length c.args.a.now) (length c.args.out.now) (2 ^ dims-at-Else-no-ne-DONE))
-  numbered-at-Else-no-ne-DONE =
-      checked _ own-at-Else-no-ne-DONE c.promoted_dims-n.result (length c.args.a.now) (length c.args.out.now) _ c.refusal_of-no.ensures (none_counted c.blades_or_none.ensures)
-      ∙ result_tests_same own-at-Else-no-ne-DONE c.promoted_dims-n.result dims-at-Else-no-ne-DONE (length c.args.a.now) (length c.args.out.now) same-at-Else-no-ne-DONE
-
--- The call is not refused.
-ok : (c : Else-no-ne-DONE) → Taken (own-at-Else-no-ne-DONE c) (dims-at-Else-no-ne-DONE c) (length c.args.a.now) (length c.args.out.now) (2 ^ dims-at-Else-no-ne-DONE c)
-ok c =
-    taken (own-at-Else-no-ne-DONE c) (dims-at-Else-no-ne-DONE c) (length c.args.a.now) (length c.args.out.now) _ (sym (numbered-at-Else-no-ne-DONE c) ∙ c.if-no-ne-DONE.false)
+  -- The call is not refused.
+  ok : c.refusal_of-no.result ≡ 0 → Taken own dims (length c.args.a.now) (length c.args.out.now) (2 ^ dims)
+  ok z = taken own dims (length c.args.a.now) (length c.args.out.now) _ (sym numbered ∙ z)
 
 pub promoted_dims-n-requires : goal.promoted_dims-n-requires
 promoted_dims-n-requires c = few c
@@ -61,7 +44,7 @@ returns-then-no-ne-DONE c = gives_refused _ _ _ _ _ (numbered (goal.at.returns-t
 
 pub conform_one-requires : goal.conform_one-requires
 conform_one-requires c =
-    let t = ok (goal.at.conform_one-requires c).Else-no-ne-DONE in
+    let t = ok (goal.at.conform_one-requires c).After-refusal_of-no c.if-no-ne-DONE.false in
     let e = c.promotion-up.ensures in
     let n = same (goal.at.conform_one-requires c).After-refusal_of-no t.small in
     record { up_bound = (few (goal.at.conform_one-requires c).After-promotion-up, omega (arith, e, t.result), omega (arith, n, t.result), t.counted, omega (arith, ap (λ k. 2 ^ k) n, t.roomy)); up_value = λ q. omega (arith, q, e, n) }
@@ -70,7 +53,7 @@ pub returns : goal.returns
 unfolding set_flavor
 returns c =
     let a = c.args in
-    let t = ok (goal.at.returns c).Else-no-ne-DONE in
+    let t = ok (goal.at.returns c).After-refusal_of-no c.if-no-ne-DONE.false in
     let up = promotes a.self.flavor a.flavor in
     gives_done _ _ _ _ _ _ (numbered (goal.at.returns c).After-refusal_of-no) c.if-no-ne-DONE.false
     (c.done.ensures ∙ rw (c.with_flavor.ensures, c.with_dims.ensures, same (goal.at.returns c).After-refusal_of-no t.small))
