@@ -2,7 +2,6 @@
 use Rattle.std.specs.Prelude.{Bool, true, false, not, ◌&&◌, ◌||◌, cond, List, [], ◌∷◌, ◌++◌, reverse, ℕ, ◌+◌, ◌-◌, ◌*◌, ◌/◌, ◌%◌, eqb, leb, ltb, length, take, drop, Option, None, Some}
 use Rattle.masks.specs.declared.flavor.Flavor.{Flavor}
 use Rattle.masks.specs.declared.flavor.Flavor.TheVariants.{Vanilla, Projective, Cl}
-use Rattle.masks.specs.declared.text.Read.{Read}
 use Rattle.masks.specs.Outcome.{Test, Written, refusal, no_room, unless, refused_list, listed}
 
 -- ---- bytes
@@ -90,6 +89,10 @@ or_zero (Some n) = n
 or_zero None = 0
 
 -- ---- reading
+
+pub record Read : Type 0 where
+  pub number : ℕ
+  pub flavor : Flavor
 
 -- A flavor that was read has number 0.
 abbrev pub read_as : Flavor → Read

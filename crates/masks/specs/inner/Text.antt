@@ -1,8 +1,7 @@
 -- How the code reads a text step by step. Assumes nothing.
 use Rattle.std.specs.Prelude.{cond, List, [], ℕ, Option, None, Some}
 use Rattle.masks.specs.declared.flavor.Flavor.TheVariants.{Cl}
-use Rattle.masks.specs.declared.text.Read.{Read}
-use Rattle.masks.specs.Text.{same, part, after_part, octet, or_zero, read_as, refused_read, begins_cl, spec_in}
+use Rattle.masks.specs.Text.{same, part, after_part, octet, or_zero, Read, read_as, refused_read, begins_cl, spec_in}
 
 -- The first part must be a u8; a fourth refuses.
 abbrev pub spec : Option ℕ → List ℕ → Read
