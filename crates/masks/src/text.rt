@@ -1,35 +1,12 @@
 // The text of a flavor, read and written.
 ghost use Rattle.std.specs.Prelude.{◌≡◌, [], ◌∷◌, reverse, ◌+◌, ◌-◌, ◌≤◌, leb, length, take, drop};
 ghost use Rattle.std.proofs.lemmas.List.Edits.{sets};
-ghost use Rattle.masks.specs.Outcome.{Writes, laid};
-ghost use Rattle.masks.specs.Text.{blank, separator, take_while, drop_while, every, same, trimmed, part, after_part, octet_of, octet, or_zero, read_flavor, decimal, text_of, write_flavor, refused_read, read_as};
+ghost use Rattle.masks.specs.Outcome.{IsAnswer, Writes, laid};
+ghost use Rattle.masks.specs.Text.{blank, separator, take_while, drop_while, every, same, trimmed, part, after_part, octet_of, octet, or_zero, read_flavor, decimal, text_of, write_flavor};
 ghost use Rattle.masks.specs.inner.Text.{spec_of, read_cl};
 
 use super::flavor::Flavor;
-use super::outcome::{Count, DONE, NO_FLAVOR, NO_ROOM, NO_SPEC};
-
-// A flavor that was read; Vanilla where it is refused.
-#[derive(Clone, Copy)]
-pub struct Read {
-    pub number: u8,
-    pub flavor: Flavor,
-}
-
-fn refused_read(number: u8) -> Read
-    ensures { result ≡ refused_read number }
-{
-    let flavor = Flavor::Vanilla;
-    Read { number, flavor }
-}
-
-fn read_as(flavor: Flavor) -> Read
-    ensures { result ≡ read_as flavor }
-{
-    Read {
-        number: DONE,
-        flavor,
-    }
-}
+use super::outcome::Refusal;
 
 fn is_blank(c: u8) -> bool
     ensures { result ≡ blank c }
@@ -141,29 +118,27 @@ fn octet_or_zero(t: &[u8]) -> u8
 }
 
 // The spec of a Cl flavor.
-fn read_spec(t: &[u8]) -> Read
-    ensures { result ≡ spec_of t.now }
+fn read_spec(t: &[u8]) -> Result<Flavor, Refusal>
+    ensures { IsAnswer (spec_of t.now).number (spec_of t.now).flavor result }
 {
     let (first, rest) = split_part(t);
     let (second, rest) = split_part(rest);
     let (third, rest) = split_part(rest);
     let (fourth, _) = split_part(rest);
-    let Some(p) = octet_in(first) else {
-        return refused_read(NO_SPEC);
-    };
+    let p = octet_in(first).ok_or(Refusal::NoSpec)?;
     if !fourth.is_empty() {
-        return refused_read(NO_SPEC);
+        return Err(Refusal::NoSpec);
     }
-    read_as(Flavor::Cl(p, octet_or_zero(second), octet_or_zero(third)))
+    Ok(Flavor::Cl(p, octet_or_zero(second), octet_or_zero(third)))
 }
 
 // Text that begins with Cl, and any other.
-fn read_cl(t: &[u8]) -> Read
-    ensures { result ≡ read_cl t.now }
+fn read_cl(t: &[u8]) -> Result<Flavor, Refusal>
+    ensures { IsAnswer (read_cl t.now).number (read_cl t.now).flavor result }
 {
     match t {
         [b'C', b'l', spec @ ..] => read_spec(trim(spec)),
-        _ => refused_read(NO_FLAVOR),
+        _ => Err(Refusal::NoFlavor),
     }
 }
 
@@ -257,34 +232,28 @@ fn put_text(f: Flavor, out: &mut [u8])
 
 impl Flavor {
     // The flavor of a text.
-    pub fn try_from_str(t: &[u8]) -> Read
-        ensures { result ≡ read_flavor t.now }
+    pub fn try_from_str(t: &[u8]) -> Result<Flavor, Refusal>
+        ensures { IsAnswer (read_flavor t.now).number (read_flavor t.now).flavor result }
     {
         if !is_ascii(t) {
-            return refused_read(NO_FLAVOR);
+            return Err(Refusal::NoFlavor);
         }
         match t {
-            b"VGA" => read_as(Flavor::Vanilla),
-            b"PGA" => read_as(Flavor::Projective),
+            b"VGA" => Ok(Flavor::Vanilla),
+            b"PGA" => Ok(Flavor::Projective),
             _ => read_cl(t),
         }
     }
 
     // The text of the flavor, and how many bytes it has.
-    pub fn write_to(self, out: &mut [u8]) -> Count
+    pub fn write_to(self, out: &mut [u8]) -> Result<usize, Refusal>
         ensures { Writes (write_flavor self (length out.old)) result out.old out.new }
     {
         let count = text_length(self);
         if out.len() < count {
-            return Count {
-                number: NO_ROOM,
-                count: 0,
-            };
+            return Err(Refusal::NoRoom);
         }
         put_text(self, out);
-        Count {
-            number: DONE,
-            count,
-        }
+        Ok(count)
     }
 }
