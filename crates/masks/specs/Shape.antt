@@ -105,7 +105,7 @@ both_tests d e n count countRight room roomRight =
 abbrev pub meeting_dims : Shape → Shape → ℕ
 meeting_dims s t = max (s.dims + promotes s.flavor t.flavor) (t.dims + promotes t.flavor s.flavor)
 
--- `agree s t` says whether two values conform as they stand: at the same dimensions, and with none to be promoted.
+-- Two values conform as they stand where their dimensions are equal and neither is promoted.
 abbrev pub agree : Shape → Shape → Bool
 agree s t = eqb s.dims t.dims && eqb (promotes s.flavor t.flavor + promotes t.flavor s.flavor) 0
 
