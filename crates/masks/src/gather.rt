@@ -25,11 +25,7 @@ pub(crate) fn copy_all(a: &[f64], out: &mut [f64])
     requires { length a.now ≤ length out.old }
     ensures { out.new ≡ laid a.now out.old }
 {
-    let mut k: usize = 0;
-    while k < a.len() {
-        out[k] = a[k];
-        k += 1;
-    }
+    out[..a.len()].copy_from_slice(a);
 }
 
 // `count` numbers from the place `first` on, written from the place `at` on.
@@ -37,11 +33,7 @@ pub(crate) fn copy_part(a: &[f64], first: usize, count: usize, out: &mut [f64], 
     requires { (first + count ≤ length a.now) × (at + count ≤ length out.old) }
     ensures { out.new ≡ sets out.old at (take count (drop first a.now)) }
 {
-    let mut k: usize = 0;
-    while k < count {
-        out[at + k] = a[first + k];
-        k += 1;
-    }
+    out[at..at + count].copy_from_slice(&a[first..first + count]);
 }
 
 // +0 at `count` places from `at` on.
@@ -49,11 +41,7 @@ pub(crate) fn clear_part(count: usize, out: &mut [f64], at: usize)
     requires { at + count ≤ length out.old }
     ensures { out.new ≡ sets out.old at (replicate count nought) }
 {
-    let mut k: usize = 0;
-    while k < count {
-        out[at + k] = 0.0;
-        k += 1;
-    }
+    out[at..at + count].fill(0.0);
 }
 
 // All coefficients at d dimensions.

@@ -1,7 +1,7 @@
 // Shapes and their changes.
 ghost use Rattle.std.specs.Prelude.{◌≡◌, cond, ◌+◌, ◌^◌, ◌≤◌, max, ltb, length};
 ghost use Rattle.masks.specs.Outcome.{Gives, GivesBoth, refusal, laid};
-ghost use Rattle.masks.specs.Shape.{with_dims, with_flavor, promotes, conformed, conformed_shape, set_dims, set_flavor, conform_to, both_tests, conform};
+ghost use Rattle.masks.specs.Shape.{with_dims, with_flavor, promotes, conformed, conformed_shape, set_dims, set_flavor, conform_to, both_tests, conform, agree};
 
 use super::flavor::Flavor;
 use super::gather::{conform_by, conform_one};
@@ -10,7 +10,7 @@ use super::outcome::{
     Answer, Answers, DONE, MAX_DIMS, NO_ROOM, done, pair_refusal, refusal_of, refused, refused_pair,
 };
 
-#[derive(Clone, Copy)]
+#[derive(Clone, Copy, PartialEq, Eq, Debug)]
 pub struct Shape {
     pub dims: u8,
     pub flavor: Flavor,
@@ -20,14 +20,9 @@ pub struct Shape {
 pub fn promotion(f: Flavor, g: Flavor) -> u8
     ensures { result ≡ promotes f g }
 {
-    match f {
-        Flavor::Vanilla => match g {
-            Flavor::Vanilla => 0,
-            Flavor::Projective => 1,
-            Flavor::Cl(_, _, _) => 0,
-        },
-        Flavor::Projective => 0,
-        Flavor::Cl(_, _, _) => 0,
+    match (f, g) {
+        (Flavor::Vanilla, Flavor::Projective) => 1,
+        _ => 0,
     }
 }
 
@@ -40,12 +35,6 @@ fn promoted_dims(dims: u8, up: u8) -> u8
         return 10;
     }
     dims + up
-}
-
-fn larger(a: u8, b: u8) -> u8
-    ensures { result ≡ max a b }
-{
-    if a < b { b } else { a }
 }
 
 // The number that conforming two values to `res` dimensions is refused with, or 0.
@@ -86,7 +75,7 @@ fn conform_both(
     requires a_len { (length a.now ≡ 2 ^ dims) × (length b.now ≡ 2 ^ other) × (2 ^ n ≤ length out.old) × (2 ^ n ≤ length out_right.old) }
     ensures { (out.new ≡ laid (conformed up dims n a.now) out.old) × (out_right.new ≡ laid (conformed up_right other n b.now) out_right.old) }
 {
-    if larger(dims, other) == n {
+    if dims.max(other) == n {
         conform_one(up, dims, n, a, out);
         conform_one(up_right, other, n, b, out_right);
         return;
@@ -112,6 +101,15 @@ impl Shape {
             dims: self.dims,
             flavor,
         }
+    }
+
+    // Whether two values conform as they stand.
+    pub fn agrees(self, other: Shape) -> bool
+        ensures { result ≡ agree self other }
+    {
+        let own = self.flavor;
+        let theirs = other.flavor;
+        self.dims == other.dims && promotion(own, theirs) + promotion(theirs, own) == 0
     }
 
     // The shape after conforming: promoted where `up` is 1, with other dimensions.
@@ -162,7 +160,7 @@ impl Shape {
         let own = self.flavor;
         let theirs = other.flavor;
         let up = promotion(own, theirs);
-        let n = larger(promoted_dims(dims, up), other.dims);
+        let n = promoted_dims(dims, up).max(other.dims);
         let no = refusal_of(dims, n, a.len(), out.len(), blades_or_none(n));
         if no != DONE {
             return refused(no);
@@ -188,7 +186,7 @@ impl Shape {
         let theirs = other.flavor;
         let up = promotion(own, theirs);
         let up_right = promotion(theirs, own);
-        let n = larger(promoted_dims(dims, up), promoted_dims(dims_right, up_right));
+        let n = promoted_dims(dims, up).max(promoted_dims(dims_right, up_right));
         let no = conform_refusal(
             dims,
             dims_right,

@@ -34,24 +34,24 @@ module _ (c : After-conform_refusal-no) where
   grown_right : theirs ≤ 9 → c.promoted_dims-2.result ≡ theirs + c.promotion-up_right.result
   grown_right = promoted_small theirs _ _ c.promoted_dims-2.ensures
 
-  same : own ≤ 9 → theirs ≤ 9 → c.larger-n.result ≡ dims
+  same : own ≤ 9 → theirs ≤ 9 → c.max-n.result ≡ dims
   same h k =
-      c.larger-n.ensures
+      c.max-n.ensures
       ∙ ap₂ max (grown h ∙ ap (λ u. own + u) c.promotion-up.ensures) (grown_right k ∙ ap (λ u. theirs + u) c.promotion-up_right.ensures)
 
   numbered : c.conform_refusal-no.result ≡ refusal (both_tests own theirs dims (length c.args.a.now) (length c.args.b.now) (length c.args.out.now) (length c.args.out_right.now))
   numbered =
       c.conform_refusal-no.ensures
-      ∙ both_tests_same own theirs c.larger-n.result dims (length c.args.a.now) (length c.args.b.now) (length c.args.out.now) (length c.args.out_right.now) same
+      ∙ both_tests_same own theirs c.max-n.result dims (length c.args.a.now) (length c.args.b.now) (length c.args.out.now) (length c.args.out_right.now) same
 
   -- The call is not refused.
-  ok : c.conform_refusal-no.result ≡ 0 → Paired own theirs c.larger-n.result (length c.args.a.now) (length c.args.b.now) (length c.args.out.now) (length c.args.out_right.now)
+  ok : c.conform_refusal-no.result ≡ 0 → Paired own theirs c.max-n.result (length c.args.a.now) (length c.args.b.now) (length c.args.out.now) (length c.args.out_right.now)
   ok z =
-      paired own theirs c.larger-n.result (length c.args.a.now) (length c.args.b.now) (length c.args.out.now) (length c.args.out_right.now)
+      paired own theirs c.max-n.result (length c.args.a.now) (length c.args.b.now) (length c.args.out.now) (length c.args.out_right.now)
       (sym c.conform_refusal-no.ensures ∙ z)
 
   -- So the code's dimensions are the definition's.
-  agreed : c.conform_refusal-no.result ≡ 0 → c.larger-n.result ≡ dims
+  agreed : c.conform_refusal-no.result ≡ 0 → c.max-n.result ≡ dims
   agreed z = same (ok z).small (ok z).small_right
 
 pub promoted_dims-requires : goal.promoted_dims-requires
@@ -67,7 +67,7 @@ returns-then-no-ne-DONE c = gives_both_refused _ _ _ _ _ _ (numbered (goal.at.re
 pub conform_both-requires : goal.conform_both-requires
 conform_both-requires c =
     let t = ok (goal.at.conform_both-requires c).After-conform_refusal-no c.if-no-ne-DONE.false in
-    record { up_bound = (few (goal.at.conform_both-requires c).After-promotion-up_right, few_right (goal.at.conform_both-requires c).After-promotion-up_right, omega (arith, c.larger-n.ensures, grown (goal.at.conform_both-requires c).After-conform_refusal-no t.small), omega (arith, c.larger-n.ensures, grown_right (goal.at.conform_both-requires c).After-conform_refusal-no t.small_right), t.result); a_len = (t.counted, t.counted_right, t.roomy, t.roomy_right) }
+    record { up_bound = (few (goal.at.conform_both-requires c).After-promotion-up_right, few_right (goal.at.conform_both-requires c).After-promotion-up_right, omega (arith, c.max-n.ensures, grown (goal.at.conform_both-requires c).After-conform_refusal-no t.small), omega (arith, c.max-n.ensures, grown_right (goal.at.conform_both-requires c).After-conform_refusal-no t.small_right), t.result); a_len = (t.counted, t.counted_right, t.roomy, t.roomy_right) }
 
 pub returns : goal.returns
 unfolding conform

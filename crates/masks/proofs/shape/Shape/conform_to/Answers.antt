@@ -26,19 +26,19 @@ module _ (c : After-refusal_of-no) where
   grown : own ≤ 9 → c.promoted_dims.result ≡ own + c.promotion-up.result
   grown = promoted_small own _ _ c.promoted_dims.ensures
 
-  same : own ≤ 9 → c.larger-n.result ≡ dims
-  same h = c.larger-n.ensures ∙ ap (λ n. max n c.args.other.dims) (grown h ∙ ap (λ u. own + u) c.promotion-up.ensures)
+  same : own ≤ 9 → c.max-n.result ≡ dims
+  same h = c.max-n.ensures ∙ ap (λ n. max n c.args.other.dims) (grown h ∙ ap (λ u. own + u) c.promotion-up.ensures)
 
-  number : c.refusal_of-no.result ≡ refusal (result_tests own c.larger-n.result (length c.args.a.now) (length c.args.out.now) (2 ^ c.larger-n.result))
+  number : c.refusal_of-no.result ≡ refusal (result_tests own c.max-n.result (length c.args.a.now) (length c.args.out.now) (2 ^ c.max-n.result))
   number =
-      checked _ own c.larger-n.result (length c.args.a.now) (length c.args.out.now) _ c.refusal_of-no.ensures (none_counted c.blades_or_none.ensures)
+      checked _ own c.max-n.result (length c.args.a.now) (length c.args.out.now) _ c.refusal_of-no.ensures (none_counted c.blades_or_none.ensures)
 
   numbered : c.refusal_of-no.result ≡ refusal (result_tests own dims (length c.args.a.now) (length c.args.out.now) (2 ^ dims))
-  numbered = number ∙ result_tests_same own c.larger-n.result dims (length c.args.a.now) (length c.args.out.now) same
+  numbered = number ∙ result_tests_same own c.max-n.result dims (length c.args.a.now) (length c.args.out.now) same
 
   -- The call is not refused.
-  ok : c.refusal_of-no.result ≡ 0 → Taken own c.larger-n.result (length c.args.a.now) (length c.args.out.now) (2 ^ c.larger-n.result)
-  ok z = taken own c.larger-n.result (length c.args.a.now) (length c.args.out.now) _ (sym number ∙ z)
+  ok : c.refusal_of-no.result ≡ 0 → Taken own c.max-n.result (length c.args.a.now) (length c.args.out.now) (2 ^ c.max-n.result)
+  ok z = taken own c.max-n.result (length c.args.a.now) (length c.args.out.now) _ (sym number ∙ z)
 
 pub promoted_dims-requires : goal.promoted_dims-requires
 promoted_dims-requires c = few c
@@ -50,7 +50,7 @@ returns-then-no-ne-DONE c = gives_refused _ _ _ _ _ (numbered (goal.at.returns-t
 pub conform_one-requires : goal.conform_one-requires
 conform_one-requires c =
     let t = ok (goal.at.conform_one-requires c).After-refusal_of-no c.if-no-ne-DONE.false in
-    record { up_bound = (few (goal.at.conform_one-requires c).After-promotion-up, omega (arith, t.result, c.larger-n.ensures, grown (goal.at.conform_one-requires c).After-refusal_of-no t.small), t.result, t.counted, t.roomy); up_value = λ e. omega (arith, e, c.larger-n.ensures, grown (goal.at.conform_one-requires c).After-refusal_of-no t.small) }
+    record { up_bound = (few (goal.at.conform_one-requires c).After-promotion-up, omega (arith, t.result, c.max-n.ensures, grown (goal.at.conform_one-requires c).After-refusal_of-no t.small), t.result, t.counted, t.roomy); up_value = λ e. omega (arith, e, c.max-n.ensures, grown (goal.at.conform_one-requires c).After-refusal_of-no t.small) }
 
 pub returns : goal.returns
 unfolding conform_to
