@@ -14,12 +14,12 @@ fn dims_for(dims: u8, mask: usize) -> u8
     requires { dims ≤ 9 }
     ensures { result ≡ blade_dims (9 - dims) dims mask }
 {
-    for n in dims..MAX_DIMS {
-        if mask < blades(n) {
-            return n;
-        }
-    }
-    MAX_DIMS
+    let fits = (dims..MAX_DIMS).find(
+        |&n|
+            requires { n ≤ 9 }
+        { mask < blades(n) },
+    );
+    fits.unwrap_or(MAX_DIMS)
 }
 
 // Whether setting a blade is refused.
