@@ -4,7 +4,7 @@ ghost use Rattle.masks.specs.Outcome.{IsAnswer, Gives, GivesBoth, refusal, laid}
 ghost use Rattle.masks.specs.Shape.{with_dims, with_flavor, promotes, conformed, conformed_shape, set_dims, set_flavor, conform_to, both_tests, conform, agree};
 
 use super::flavor::Flavor;
-use super::gather::{conform_by, conform_one};
+use super::gather::conform_by;
 use super::order::{blades, blades_or_none};
 use super::outcome::{MAX_DIMS, Refusal, pair_refusal, refusal_of};
 
@@ -24,17 +24,6 @@ pub fn promotion(f: Flavor, g: Flavor) -> u8
     }
 }
 
-// The dimensions of a value promoted by `up`, 0 or 1: 10 where they are above 9 already, which is refused.
-fn promoted_dims(dims: u8, up: u8) -> u8
-    requires { up ≤ 1 }
-    ensures { result ≡ cond (ltb 9 dims) 10 (dims + up) }
-{
-    if MAX_DIMS < dims {
-        return 10;
-    }
-    dims + up
-}
-
 // Whether conforming two values to `res` dimensions is refused.
 fn conform_refusal(
     dims: u8,
@@ -52,31 +41,6 @@ fn conform_refusal(
         return Err(Refusal::NoRoom);
     }
     Ok(())
-}
-
-// Two values, each promoted by its `up` dimensions, 0 or 1, and then at n.
-fn conform_both(
-    up: u8,
-    dims: u8,
-    up_right: u8,
-    other: u8,
-    n: u8,
-    a: &[f64],
-    b: &[f64],
-    out: &mut [f64],
-    out_right: &mut [f64],
-)
-    requires up_bound { (up ≤ 1) × (up_right ≤ 1) × (dims + up ≤ n) × (other + up_right ≤ n) × (n ≤ 9) }
-    requires a_len { (length a.now ≡ 2 ^ dims) × (length b.now ≡ 2 ^ other) × (2 ^ n ≤ length out.old) × (2 ^ n ≤ length out_right.old) }
-    ensures { (out.new ≡ laid (conformed up dims n a.now) out.old) × (out_right.new ≡ laid (conformed up_right other n b.now) out_right.old) }
-{
-    if dims.max(other) == n {
-        conform_one(up, dims, n, a, out);
-        conform_one(up_right, other, n, b, out_right);
-        return;
-    }
-    conform_by(up, dims, n, a, out);
-    conform_by(up_right, other, n, b, out_right);
 }
 
 impl Shape {
@@ -124,7 +88,7 @@ impl Shape {
     {
         let dims = self.dims;
         refusal_of(dims, new_dims, a.len(), out.len(), blades_or_none(new_dims))?;
-        conform_one(0, dims, new_dims, a, out);
+        conform_by(0, dims, new_dims, a, out);
         Ok(self.with_dims(new_dims))
     }
 
@@ -135,9 +99,9 @@ impl Shape {
         let dims = self.dims;
         let own = self.flavor;
         let up = promotion(own, flavor);
-        let n = promoted_dims(dims, up);
+        let n = dims.saturating_add(up);
         refusal_of(dims, n, a.len(), out.len(), blades_or_none(n))?;
-        conform_one(up, dims, n, a, out);
+        conform_by(up, dims, n, a, out);
         Ok(self.with_dims(n).with_flavor(flavor))
     }
 
@@ -149,9 +113,9 @@ impl Shape {
         let own = self.flavor;
         let theirs = other.flavor;
         let up = promotion(own, theirs);
-        let n = promoted_dims(dims, up).max(other.dims);
+        let n = dims.saturating_add(up).max(other.dims);
         refusal_of(dims, n, a.len(), out.len(), blades_or_none(n))?;
-        conform_one(up, dims, n, a, out);
+        conform_by(up, dims, n, a, out);
         Ok(self.conformed(up, n))
     }
 
@@ -172,7 +136,9 @@ impl Shape {
         let theirs = other.flavor;
         let up = promotion(own, theirs);
         let up_right = promotion(theirs, own);
-        let n = promoted_dims(dims, up).max(promoted_dims(dims_right, up_right));
+        let n = dims
+            .saturating_add(up)
+            .max(dims_right.saturating_add(up_right));
         conform_refusal(
             dims,
             dims_right,
@@ -182,7 +148,8 @@ impl Shape {
             out.len(),
             out_right.len(),
         )?;
-        conform_both(up, dims, up_right, dims_right, n, a, b, out, out_right);
+        conform_by(up, dims, n, a, out);
+        conform_by(up_right, dims_right, n, b, out_right);
         let left = self.conformed(up, n);
         let right = other.conformed(up_right, n);
         Ok((left, right))

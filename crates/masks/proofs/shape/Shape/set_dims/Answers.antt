@@ -7,7 +7,7 @@ use Rattle.masks.specs.Outcome.{refusal, laid, result_tests}
 use Rattle.masks.specs.Shape.{set_dims}
 use Rattle.masks.proofs.ShapeLaws.{conformed_none}
 use Rattle.masks.proofs.OrderLaws.{none_counted}
-use Rattle.masks.proofs.OutcomeLaws.{Taken, taken, needed_same, gives_refused, gives_done}
+use Rattle.masks.proofs.OutcomeLaws.{taken, needed_same, gives_refused, gives_done}
 use Rattle.masks.proofs.shape.Shape.set_dims.Goals.{After-refusal_of}
 use Rattle.masks.proofs.shape.Shape.set_dims.Goals as goal
 
@@ -23,15 +23,15 @@ returns-in_err-refusal_of c =
     let f = c.in_err-refusal_of in
     rw (p.1, p.2) (gives_refused _ f.field-0.0 _ _ (number (goal.at.returns-in_err-refusal_of c).After-refusal_of ∙ f.ensures))
 
-pub conform_one-requires : goal.conform_one-requires
-conform_one-requires c =
+pub conform_by-requires : goal.conform_by-requires
+conform_by-requires c =
     let a = c.args in
-    let t = taken a.self.dims a.new_dims (length a.a.now) (length a.out.now) _ (number (goal.at.conform_one-requires c).After-refusal_of ∙ c.in_ok-refusal_of.ensures.0) in
-    record { up_bound = (omega arith, omega (arith, t.small), t.result, t.counted, t.roomy); up_value = λ e. refl }
+    let t = taken a.self.dims a.new_dims (length a.a.now) (length a.out.now) _ (number (goal.at.conform_by-requires c).After-refusal_of ∙ c.in_ok-refusal_of.ensures.0) in
+    (omega arith, omega (arith, t.small), t.result, t.counted, t.roomy)
 
 pub returns : goal.returns
 unfolding set_dims
 returns c =
     let a = c.args in
-    gives_done _ _ _ _ _ (number (goal.at.returns c).After-refusal_of ∙ c.in_ok-refusal_of.ensures.0) refl c.with_dims.ensures (c.conform_one.ensures
+    gives_done _ _ _ _ _ (number (goal.at.returns c).After-refusal_of ∙ c.in_ok-refusal_of.ensures.0) refl c.with_dims.ensures (c.conform_by.ensures
     ∙ ap (λ xs. laid xs a.out.now) (sym (conformed_none 0 a.self.dims a.new_dims a.a.now refl)))

@@ -8,36 +8,31 @@ use Rattle.masks.specs.Shape.{promotes, conformed, set_flavor}
 use Rattle.masks.proofs.ShapeLaws.{conformed_same, promotes_le, promoted_small}
 use Rattle.masks.proofs.OrderLaws.{none_counted}
 use Rattle.masks.proofs.OutcomeLaws.{Taken, taken, needed_same, gives_refused, gives_done, result_tests_same}
-use Rattle.masks.proofs.shape.Shape.set_flavor.Goals.{After-promotion-up, After-refusal_of}
+use Rattle.masks.proofs.shape.Shape.set_flavor.Goals.{After-refusal_of}
 use Rattle.masks.proofs.shape.Shape.set_flavor.Goals as goal
-
-few : (c : After-promotion-up) → c.promotion-up.result ≤ 1
-few c =
-    let s = c.args in
-    omega (arith, c.promotion-up.ensures, promotes_le s.self.flavor s.flavor)
 
 -- The definition's number is the code's.
 module _ (c : After-refusal_of) where
+  few : c.promotion-up.result ≤ 1
+  few = omega (arith, c.promotion-up.ensures, promotes_le c.args.self.flavor c.args.flavor)
+
   abbrev own : ℕ
   own = c.args.self.dims
 
   abbrev dims : ℕ
   dims = own + promotes c.args.self.flavor c.args.flavor
 
-  same : own ≤ 9 → c.promoted_dims-n.result ≡ dims
-  same l = promoted_small own _ _ c.promoted_dims-n.ensures l ∙ ap (λ u. own + u) c.promotion-up.ensures
+  same : own ≤ 9 → c.saturating_add-n.result ≡ dims
+  same l = promoted_small own _ _ c.saturating_add-n.ensures few l ∙ ap (λ u. own + u) c.promotion-up.ensures
 
-  number : refusal (result_tests own dims (length c.args.a.now) (length c.args.out.now) (2 ^ dims)) ≡ refusal (result_tests own c.promoted_dims-n.result (length c.args.a.now) (length c.args.out.now) c.blades_or_none.result)
+  number : refusal (result_tests own dims (length c.args.a.now) (length c.args.out.now) (2 ^ dims)) ≡ refusal (result_tests own c.saturating_add-n.result (length c.args.a.now) (length c.args.out.now) c.blades_or_none.result)
   number =
-      sym (needed_same own c.promoted_dims-n.result (length c.args.a.now) (length c.args.out.now) _ _ (none_counted c.blades_or_none.ensures)
-      ∙ result_tests_same own c.promoted_dims-n.result dims (length c.args.a.now) (length c.args.out.now) same)
+      sym (needed_same own c.saturating_add-n.result (length c.args.a.now) (length c.args.out.now) _ _ (none_counted c.blades_or_none.ensures)
+      ∙ result_tests_same own c.saturating_add-n.result dims (length c.args.a.now) (length c.args.out.now) same)
 
   -- The call is not refused.
-  ok : refusal (result_tests own c.promoted_dims-n.result (length c.args.a.now) (length c.args.out.now) c.blades_or_none.result) ≡ 0 → Taken own dims (length c.args.a.now) (length c.args.out.now) (2 ^ dims)
+  ok : refusal (result_tests own c.saturating_add-n.result (length c.args.a.now) (length c.args.out.now) c.blades_or_none.result) ≡ 0 → Taken own dims (length c.args.a.now) (length c.args.out.now) (2 ^ dims)
   ok z = taken own dims (length c.args.a.now) (length c.args.out.now) _ (number ∙ z)
-
-pub promoted_dims-n-requires : goal.promoted_dims-n-requires
-promoted_dims-n-requires c = few c
 
 pub returns-in_err-refusal_of : goal.returns-in_err-refusal_of
 unfolding set_flavor
@@ -46,13 +41,13 @@ returns-in_err-refusal_of c =
     let f = c.in_err-refusal_of in
     rw (p.1, p.2) (gives_refused _ f.field-0.0 _ _ (number (goal.at.returns-in_err-refusal_of c).After-refusal_of ∙ f.ensures))
 
-pub conform_one-requires : goal.conform_one-requires
-conform_one-requires c =
-    let r = (goal.at.conform_one-requires c).After-refusal_of in
+pub conform_by-requires : goal.conform_by-requires
+conform_by-requires c =
+    let r = (goal.at.conform_by-requires c).After-refusal_of in
     let t = ok r c.in_ok-refusal_of.ensures.0 in
     let e = c.promotion-up.ensures in
     let n = same r t.small in
-    record { up_bound = (few (goal.at.conform_one-requires c).After-promotion-up, omega (arith, e, t.result), omega (arith, n, t.result), t.counted, omega (arith, ap (λ k. 2 ^ k) n, t.roomy)); up_value = λ q. omega (arith, q, e, n) }
+    (few r, omega (arith, e, t.result), omega (arith, n, t.result), t.counted, omega (arith, ap (λ k. 2 ^ k) n, t.roomy))
 
 pub returns : goal.returns
 unfolding set_flavor
@@ -64,6 +59,6 @@ returns c =
     let up = promotes a.self.flavor a.flavor in
     gives_done _ _ _ _ _ (number r ∙ z) refl
     (c.with_flavor.ensures ∙ rw (c.with_dims.ensures, same r t.small))
-    (c.conform_one.ensures
+    (c.conform_by.ensures
     ∙ ap₂ (λ u n. laid (conformed u a.self.dims n a.a.now) a.out.now) c.promotion-up.ensures (same r t.small)
     ∙ ap (λ xs. laid xs a.out.now) (conformed_same up (own r) (dims r) a.a.now (promotes_le _ _) refl t.result t.counted))
