@@ -95,12 +95,10 @@ fn promote(dims: u8, a: &[f64], out: &mut [f64])
     let mut below: usize = 1;
     let mut i: usize = 1;
     let mut k: usize = 1;
-    let mut g: u8 = 0;
-    while g <= dims {
+    for g in 0..dims + 1 {
         clear_part(below, out, k);
         k += below;
-        g += 1;
-        below = size_of(dims, g);
+        below = size_of(dims, g + 1);
         copy_part(a, i, below, out, k);
         i += below;
         k += below;
