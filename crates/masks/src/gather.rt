@@ -125,16 +125,3 @@ pub(crate) fn conform_by(up: u8, dims: u8, new_dims: u8, a: &[f64], out: &mut [f
     let count = blades(dims + 1);
     resize(dims + 1, new_dims, &held[..count], out);
 }
-
-// The same, where the dimensions may stay: then it is copied.
-pub(crate) fn conform_one(up: u8, dims: u8, new_dims: u8, a: &[f64], out: &mut [f64])
-    requires up_bound { (up ≤ 1) × (dims + up ≤ 9) × (new_dims ≤ 9) × (length a.now ≡ 2 ^ dims) × (2 ^ new_dims ≤ length out.old) }
-    requires up_value { dims ≡ new_dims → up ≡ 0 }
-    ensures { out.new ≡ laid (conformed up dims new_dims a.now) out.old }
-{
-    if dims == new_dims {
-        copy_all(a, out);
-        return;
-    }
-    conform_by(up, dims, new_dims, a, out);
-}
