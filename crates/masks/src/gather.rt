@@ -95,12 +95,10 @@ fn promote(dims: u8, a: &[f64], out: &mut [f64])
     let mut below: usize = 1;
     let mut i: usize = 1;
     let mut k: usize = 1;
-    let mut g: u8 = 0;
-    while g <= dims {
+    for g in 0..dims + 1 {
         clear_part(below, out, k);
         k += below;
-        g += 1;
-        below = size_of(dims, g);
+        below = size_of(dims, g + 1);
         copy_part(a, i, below, out, k);
         i += below;
         k += below;
@@ -124,17 +122,4 @@ pub(crate) fn conform_by(up: u8, dims: u8, new_dims: u8, a: &[f64], out: &mut [f
     promote(dims, a, &mut held);
     let count = blades(dims + 1);
     resize(dims + 1, new_dims, &held[..count], out);
-}
-
-// The same, where the dimensions may stay: then it is copied.
-pub(crate) fn conform_one(up: u8, dims: u8, new_dims: u8, a: &[f64], out: &mut [f64])
-    requires up_bound { (up ≤ 1) × (dims + up ≤ 9) × (new_dims ≤ 9) × (length a.now ≡ 2 ^ dims) × (2 ^ new_dims ≤ length out.old) }
-    requires up_value { dims ≡ new_dims → up ≡ 0 }
-    ensures { out.new ≡ laid (conformed up dims new_dims a.now) out.old }
-{
-    if dims == new_dims {
-        copy_all(a, out);
-        return;
-    }
-    conform_by(up, dims, new_dims, a, out);
 }
