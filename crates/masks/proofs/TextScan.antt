@@ -9,7 +9,8 @@ use native.Mathlib.Omega.{arith}
 use lib.Dec.{eqb}
 use lib.ListN.{length, get_or, take, drop, length-drop, take-append-drop}
 use lib.Seq.{drop-cons, drop-length, take_all, take-suc, take-length}
-use borrow.Author.Tests.{eq-eqb, ne_eqb, lt-ltb, le-ltb}
+use native.Mathlib.Decide.{ℕ_discrete}
+use borrow.Author.Tests.{eq-eqb, ne_eqb, eqb-true, lt-ltb, le-ltb}
 use Rattle.std.specs.Prelude.{None, Some}
 use Rattle.std.specs.List.{prefix_len, position, list_all}
 use Rattle.std.specs.Option.{unwrap_or}
@@ -22,27 +23,55 @@ use Rattle.masks.proofs.ListLaws.{split}
 pub rest_all {ℓ} : {A : Type ℓ} (n : ℕ) (t : List A) → take (length t - n) (drop n t) ≡ drop n t
 rest_all n t = take_all (length t - n) (drop n t) (omega (arith, length-drop n t))
 
--- the first two bytes of a list, and a list of three, are compared byte by byte
-pub same_two : (t : List ℕ) (a b : ℕ) → 2 ≤ length t → same (take 2 t) (a ∷ b ∷ []) ≡ (eqb (get_or t 0 0) a && (eqb (get_or t 1 0) b && true))
-unfolding same
-same_two [] a b h = absurd (omega arith)
-same_two (x ∷ []) a b h = absurd (omega arith)
-same_two (x ∷ y ∷ t) a b h = refl
-
-pub same_three : (t : List ℕ) (a b c : ℕ) → length t ≡ 3 → same t (a ∷ b ∷ c ∷ []) ≡ (eqb (get_or t 0 0) a && (eqb (get_or t 1 0) b && (eqb (get_or t 2 0) c && true)))
-unfolding same
-same_three [] a b c h = absurd (omega arith)
-same_three (x ∷ []) a b c h = absurd (omega arith)
-same_three (x ∷ y ∷ []) a b c h = absurd (omega arith)
-same_three (x ∷ y ∷ z ∷ []) a b c h = refl
-same_three (x ∷ y ∷ z ∷ w ∷ t) a b c h = absurd (omega arith)
-
 pub same_not : (xs ys : List ℕ) → (length xs ≡ length ys → ⊥) → same xs ys ≡ false
 unfolding same
 same_not [] [] h = absurd (h refl)
 same_not [] (y ∷ ys) h = refl
 same_not (x ∷ xs) [] h = refl
 same_not (x ∷ xs) (y ∷ ys) h = rw (same_not xs ys (λ e. h (ap suc e))) (and-false (eqb x y))
+
+-- the first two bytes of a list, and a list of three, are compared byte by byte
+pub two_are : (t : List ℕ) (a b : ℕ) → 2 ≤ length t → get_or t 0 0 ≡ a → get_or t 1 0 ≡ b → same (take 2 t) (a ∷ b ∷ []) ≡ true
+unfolding same
+two_are [] a b h e f = absurd (omega arith)
+two_are (x ∷ []) a b h e f = absurd (omega arith)
+two_are (x ∷ y ∷ t) a b h e f = rw (eq-eqb x a e, eq-eqb y b f)
+
+pub two_not : (t : List ℕ) (a b : ℕ) → (2 ≤ length t → get_or t 0 0 ≡ a → get_or t 1 0 ≡ b → ⊥) → same (take 2 t) (a ∷ b ∷ []) ≡ false
+unfolding same
+two_not [] a b h = refl
+two_not (x ∷ []) a b h = and-false (eqb x a)
+two_not (x ∷ y ∷ t) a b h = go (eqb x a) (eqb y b) (eqb-true x a) (eqb-true y b)
+  where
+    go : (p q : Bool) → (p ≡ true → x ≡ a) → (q ≡ true → y ≡ b) → (p && (q && true)) ≡ false
+    go false q e f = refl
+    go true false e f = refl
+    go true true e f = absurd (h (omega arith) (e refl) (f refl))
+
+pub three_are : (t : List ℕ) (a b c : ℕ) → length t ≡ 3 → get_or t 0 0 ≡ a → get_or t 1 0 ≡ b → get_or t 2 0 ≡ c → same t (a ∷ b ∷ c ∷ []) ≡ true
+unfolding same
+three_are [] a b c h e f g = absurd (omega arith)
+three_are (x ∷ []) a b c h e f g = absurd (omega arith)
+three_are (x ∷ y ∷ []) a b c h e f g = absurd (omega arith)
+three_are (x ∷ y ∷ z ∷ []) a b c h e f g = rw (eq-eqb x a e, eq-eqb y b f, eq-eqb z c g)
+three_are (x ∷ y ∷ z ∷ w ∷ t) a b c h e f g = absurd (omega arith)
+
+pub three_not : (t : List ℕ) (a b c : ℕ) → (length t ≡ 3 → get_or t 0 0 ≡ a → get_or t 1 0 ≡ b → get_or t 2 0 ≡ c → ⊥) → same t (a ∷ b ∷ c ∷ []) ≡ false
+unfolding same
+three_not t a b c h = elim (ℕ_discrete (length t) 3) [ yes e ↦ go t e h | no e ↦ same_not t (a ∷ b ∷ c ∷ []) e ]
+  where
+    at : (x y z : ℕ) (p q r : Bool) → (p ≡ true → x ≡ a) → (q ≡ true → y ≡ b) → (r ≡ true → z ≡ c) → (x ≡ a → y ≡ b → z ≡ c → ⊥) → (p && (q && (r && true))) ≡ false
+    at x y z false q r e f g h = refl
+    at x y z true false r e f g h = refl
+    at x y z true true false e f g h = refl
+    at x y z true true true e f g h = absurd (h (e refl) (f refl) (g refl))
+
+    go : (t : List ℕ) → length t ≡ 3 → (length t ≡ 3 → get_or t 0 0 ≡ a → get_or t 1 0 ≡ b → get_or t 2 0 ≡ c → ⊥) → same t (a ∷ b ∷ c ∷ []) ≡ false
+    go [] e h = absurd (omega arith)
+    go (x ∷ []) e h = absurd (omega arith)
+    go (x ∷ y ∷ []) e h = absurd (omega arith)
+    go (x ∷ y ∷ z ∷ []) e h = at x y z (eqb x a) (eqb y b) (eqb z c) (eqb-true x a) (eqb-true y b) (eqb-true z c) (h refl)
+    go (x ∷ y ∷ z ∷ w ∷ t) e h = absurd (omega arith)
 
 pub same_nil : (xs : List ℕ) → length xs ≡ 0 → same xs [] ≡ true
 unfolding same

@@ -2,13 +2,12 @@ use mathlib.Core.Path.{◌≡◌, refl, sym, ap, ◌∙◌, subst}
 use Prim.Native.Nat.{◌≤◌}
 use native.Mathlib.Omega.{arith}
 use lib.ListN.{length}
-use Rattle.std.specs.Prelude.{Option, None, Some, Result, Err, ok_or}
+use Rattle.std.specs.Prelude.{Option, None, Some}
 use Rattle.std.proofs.lemmas.Result.{err_from_is_err_and}
-use Rattle.masks.specs.declared.build.Packing.{Packing}
 use Rattle.masks.specs.declared.build.Packing.TheVariants.{Full, Half, Grade}
-use Rattle.masks.specs.declared.outcome.Refusal.{Refusal}
 use Rattle.masks.specs.declared.outcome.Refusal.TheVariants.{TooManyDims, WrongCount, NoRoom}
 use Rattle.masks.specs.Build.{odd_of, packing, unpacked, blades_of_side}
+use Rattle.masks.proofs.ListLaws.{missing_err}
 use Rattle.masks.proofs.OutcomeLaws.{gives_refused, gives_done}
 use Rattle.masks.proofs.BuildLaws.{Packs, packing_fits, grade_fits, pack_wide, pack_none, pack_short, pack_done}
 use Rattle.masks.proofs.build.pack.Goals.{In_ok-packing}
@@ -34,9 +33,7 @@ returns-in_err-packing c =
     let a = c.args in
     let p = err_from_is_err_and c.from_residual.result c.from_residual.ensures.1 in
     let f = c.in_err-packing in
-    let e : ◌≡◌ {A = Result Packing Refusal} (Err f.field-0.0) (Err WrongCount) = f.ensures.value ∙ ap (λ o. ok_or o WrongCount) f.ensures.ok_part in
-    let g : f.field-0.0 ≡ WrongCount = cc in
-    rw (p.1, p.2, g)
+    rw (p.1, p.2, missing_err _ _ _ f.ensures.value)
     (gives_refused _ WrongCount _ a.out.now (pack_none a.dims (packing (odd_of a.parity) a.dims (length a.v.now)) (length a.out.now) (omega arith) (ap unpacked (sym c.packing_of.ensures ∙ f.ensures.ok_part))))
 
 pub returns-then-out-blades : goal.returns-then-out-blades
