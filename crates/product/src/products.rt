@@ -30,7 +30,7 @@ fn fill_ordered<const N: usize>(
     b: &[f64],
     out: &mut [f64],
 )
-    requires { (dims ≤ 9) × (length a.now ≡ 2 ^ dims) × (length b.now ≡ 2 ^ dims) × (2 ^ dims ≤ N) × (2 ^ dims ≤ length out.old) }
+    requires { (dims ≤ 9) × (length a.now ≡ 2 ^ dims) × (length b.now ≡ 2 ^ dims) × (2 ^ dims ≤ N) × (N ≤ 512) × (2 ^ dims ≤ length out.old) }
     ensures { (f : Flavor) → s ≡ squares_below 9 (flavor_for mode f) → out.new ≡ laid (product_by (mask_at dims) dims mode f binary64 a.now b.now) out.old }
 {
     let mut order = [0; N];
@@ -83,7 +83,7 @@ fn multiply_in<const N: usize>(
     b: &[f64],
     out: &mut [f64],
 ) -> Result<Product, Refusal>
-    requires { meeting_dims left right ≤ 9 → 2 ^ meeting_dims left right ≤ N }
+    requires { (meeting_dims left right ≤ 9 → 2 ^ meeting_dims left right ≤ N) × (N ≤ 512) }
     ensures { GivesProduct (multiplied_by given.now mode left right a.now b.now (length out.old)) result out.old out.new }
 {
     let mut x = [0.0; N];
