@@ -1,55 +1,45 @@
 // The five products.
 ghost use Rattle.std.specs.Prelude.{◌≡◌, ◌^◌, ◌≤◌, length};
 ghost use Rattle.std.specs.Float.{binary64};
-ghost use Rattle.masks.specs.declared.flavor.Flavor.{Flavor};
 ghost use Rattle.masks.specs.Outcome.{laid};
 ghost use Rattle.masks.specs.Shape.{meeting_dims};
-ghost use Rattle.product.specs.Mode.{flavor_for};
 ghost use Rattle.product.specs.Pairwise.{mask_at};
 ghost use Rattle.product.specs.Given.{given_mask, product_by, multiplied_by_of, multiplied_by};
 ghost use Rattle.product.specs.Products.{GivesProduct, general_product, left_contraction, right_contraction, inner_product, outer_product};
-ghost use Rattle.product.specs.inner.Metric.{squares_below};
 
-use super::metric::{Squares, squares_of};
-use super::mode::{Mode, flavor_for};
+use super::mode::Mode;
 use super::outcome::Product;
 use super::pairs::pair_count;
+use super::plan::Plan;
 use super::sums::fill_given;
-use masks::flavor::Flavor;
 use masks::order::{blades_or_none, put_order};
 use masks::outcome::{Refusal, pair_refusal};
 use masks::shape::Shape;
 
-// The coefficients of the product of two values of one dimension, whose places have the masks of the order, which is built here, in an array that is long
+// The coefficients of the product of two values of one shape, whose places have the masks of the order, which is built here, in an array that is long
 // enough.
-fn fill_ordered<const N: usize>(
-    dims: u8,
-    mode: Mode,
-    s: Squares,
-    a: &[f64],
-    b: &[f64],
-    out: &mut [f64],
-)
-    requires { (dims ≤ 9) × (length a.now ≡ 2 ^ dims) × (length b.now ≡ 2 ^ dims) × (2 ^ dims ≤ N) × (N ≤ 512) × (2 ^ dims ≤ length out.old) }
-    ensures { (f : Flavor) → s ≡ squares_below 9 (flavor_for mode f) → out.new ≡ laid (product_by (mask_at dims) dims mode f binary64 a.now b.now) out.old }
+fn fill_ordered<const N: usize>(mode: Mode, shape: Shape, a: &[f64], b: &[f64], out: &mut [f64])
+    requires a_len { (shape.dims ≤ 9) × (length a.now ≡ 2 ^ shape.dims) × (length b.now ≡ 2 ^ shape.dims) × (2 ^ shape.dims ≤ length out.old) }
+    requires room { (2 ^ shape.dims ≤ N) × (N ≤ 512) }
+    ensures { out.new ≡ laid (product_by (mask_at shape.dims) shape.dims mode shape.flavor binary64 a.now b.now) out.old }
 {
     let mut order = [0; N];
-    put_order(dims, &mut order).unwrap();
-    fill_given(dims, &order, mode, s, a, b, out);
+    put_order(shape.dims, &mut order).unwrap();
+    let given = &order;
+    fill_given(Plan { shape, mode, given }, a, b, out);
 }
 
-// The coefficients of the product of two values of one dimension, whose places have the given masks, or where these are too few those of the order.
-fn fill(given: &[u16], mode: Mode, flavor: Flavor, dims: u8, a: &[f64], b: &[f64], out: &mut [f64])
-    requires { (dims ≤ 9) × (length a.now ≡ 2 ^ dims) × (length b.now ≡ 2 ^ dims) × (2 ^ dims ≤ length out.old) }
-    ensures { out.new ≡ laid (product_by (given_mask given.now dims) dims mode flavor binary64 a.now b.now) out.old }
+// The coefficients of the product of two values of one shape, whose places have the given masks, or where these are too few those of the order.
+fn fill(given: &[u16], mode: Mode, shape: Shape, a: &[f64], b: &[f64], out: &mut [f64])
+    requires { (shape.dims ≤ 9) × (length a.now ≡ 2 ^ shape.dims) × (length b.now ≡ 2 ^ shape.dims) × (2 ^ shape.dims ≤ length out.old) }
+    ensures { out.new ≡ laid (product_by (given_mask given.now shape.dims) shape.dims mode shape.flavor binary64 a.now b.now) out.old }
 {
-    let s = squares_of(flavor_for(mode, flavor));
     if a.len() <= given.len() {
-        fill_given(dims, given, mode, s, a, b, out);
-    } else if dims <= 6 {
-        fill_ordered::<64>(dims, mode, s, a, b, out);
+        fill_given(Plan { shape, mode, given }, a, b, out);
+    } else if shape.dims <= 6 {
+        fill_ordered::<64>(mode, shape, a, b, out);
     } else {
-        fill_ordered::<512>(dims, mode, s, a, b, out);
+        fill_ordered::<512>(mode, shape, a, b, out);
     }
 }
 
@@ -65,11 +55,10 @@ fn multiply_same(
     requires { (shape.dims ≤ 9) × (length a.now ≡ 2 ^ shape.dims) × (length b.now ≡ 2 ^ shape.dims) × (2 ^ shape.dims ≤ length out.old) }
     ensures { GivesProduct (multiplied_by_of given.now mode shape a.now b.now) (Ok result) out.old out.new }
 {
-    let flavor = shape.flavor;
-    fill(given, mode, flavor, shape.dims, a, b, out);
+    fill(given, mode, shape, a, b, out);
     Product {
         shape,
-        pairs: pair_count(mode, flavor, shape.dims),
+        pairs: pair_count(mode, shape.flavor, shape.dims),
     }
 }
 
