@@ -1,5 +1,5 @@
 // Numbers in a slice of bytes, the lowest byte first, and items in it, one after the other.
-ghost use Rattle.std.specs.Prelude.{◌≡◌, ℕ, ◌+◌, ◌*◌, ◌≤◌, ◌<◌, List, length, get_or, take, drop};
+ghost use Rattle.std.specs.Prelude.{◌≡◌, map, ℕ, ◌+◌, ◌*◌, ◌≤◌, List, length, take, drop};
 ghost use Rattle.std.proofs.lemmas.List.Edits.{sets};
 ghost use Rattle.masks.specs.Outcome.{laid};
 ghost use Rattle.sheets.specs.Bytes.{from_little_endian, little_endian, all_bytes};
@@ -48,19 +48,21 @@ pub(crate) fn put_made<A: Copy, B: Copy, F: Fn(A) -> B>(items: &[A], f: F, out: 
     }
 }
 
-// The bytes that f makes of each item, N each, from the place `at` on.
-pub(crate) fn put_bytes<A: Copy, const N: usize, F: Fn(A) -> [u8; N]>(
+// The first `width` of the bytes that f makes of each item, from the place `at` on.
+pub(crate) fn put_bytes<A: Copy, F: Fn(A) -> [u8; 8]>(
     items: &[A],
+    width: usize,
     f: F,
     at: usize,
     out: &mut [u8],
 )
     requires callable { F.IsAlwaysCallable f }
-    requires room { at + N * length items.now ≤ length out.old }
-    ensures { (g : A → List ℕ) → Makes (F.post f) g items.now → out.new ≡ sets out.old at (all_bytes g items.now) }
+    requires narrow { width ≤ 8 }
+    requires room { at + width * length items.now ≤ length out.old }
+    ensures { (g : A → List ℕ) → Makes (F.post f) g items.now → ((x : A) → length (g x) ≡ 8) → out.new ≡ sets out.old at (all_bytes (λ x. take width (g x)) items.now) }
 {
     for (i, item) in items.iter().enumerate() {
-        let start = at + N * i;
-        out[start..start + N].copy_from_slice(&f(*item));
+        let start = at + width * i;
+        out[start..start + width].copy_from_slice(&f(*item)[..width]);
     }
 }

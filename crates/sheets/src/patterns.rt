@@ -3,6 +3,7 @@ ghost use Rattle.std.specs.Prelude.{◌≡◌, length};
 ghost use Rattle.std.specs.Float.{binary64};
 ghost use Rattle.std.specs.Float.Ieee.{of_bits, to_bits};
 ghost use Rattle.masks.specs.Outcome.{Writes};
+ghost use Rattle.sheets.specs.Bytes.{from_little_endian};
 ghost use Rattle.sheets.specs.Patterns.{converted, numbers_of, patterns_of, numbers_in};
 ghost use Rattle.sheets.specs.inner.Items.{Makes};
 
@@ -20,6 +21,13 @@ fn number_of(pattern: u64) -> f64
         return 0.0 / 0.0;
     }
     f64::from_bits(pattern)
+}
+
+// The number of a pattern that eight bytes stand for.
+fn number_from(bytes: [u8; 8]) -> f64
+    ensures { result ≡ of_bits binary64 (from_little_endian bytes) }
+{
+    number_of(pattern_from(bytes))
 }
 
 // The pattern of a number.
@@ -63,7 +71,7 @@ pub fn numbers_in(bytes: &[u8], out: &mut [f64]) -> Result<usize, Refusal>
     if !rest.is_empty() {
         return Err(Refusal::WrongCount);
     }
-    convert(patterns, |eight| number_of(pattern_from(eight)), out)
+    convert(patterns, number_from, out)
 }
 
 // The patterns of numbers, and how many there are.

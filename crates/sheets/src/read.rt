@@ -6,7 +6,7 @@ ghost use Rattle.sheets.specs.Read.{said, read_of, Reads, read_sheet, checked};
 ghost use Rattle.sheets.specs.inner.Checks.{is_shape, are_shapes};
 
 use super::bytes::{number_at, pattern_from, put_made};
-use super::shapes::{MAX_COEFFICIENTS, MAX_SHAPES, Shapes, blade_total, shapes_by};
+use super::shapes::{MAX_COEFFICIENTS, MAX_SHAPES, Shapes, blade_total, shape_at, shapes_by};
 use masks::outcome::{MAX_DIMS, Refusal};
 
 // A sheet: its patterns are in the caller's output.
@@ -34,11 +34,14 @@ fn is_shape(five: &[u8; 5]) -> bool
     if MAX_DIMS < dims {
         return false;
     }
-    match kind {
-        0 | 1 => p == 0 && n == 0 && z == 0,
-        2 => true,
-        _ => false,
+    if kind == 2 {
+        return true;
     }
+    if 2 < kind {
+        return false;
+    }
+    let none = p == 0 && n == 0;
+    none && z == 0
 }
 
 // Whether the shapes that bytes say, five each, are well formed.
@@ -67,7 +70,8 @@ pub fn check(bytes: &[u8]) -> Result<SheetRead, Refusal>
     if !are_shapes(&bytes[2..at]) {
         return Err(Refusal::Malformed);
     }
-    let shapes = shapes_by::<5>(&bytes[2..at]);
+    let (fives, _) = bytes[2..at].as_chunks::<5>();
+    let shapes = shapes_by(fives, shape_at);
     let count = blade_total(shapes.listed());
     if number_at(bytes, at, 4) != count as u64 {
         return Err(Refusal::Malformed);

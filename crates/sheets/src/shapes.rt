@@ -1,9 +1,10 @@
 // The record in which a sheet's shapes travel, and its list in bytes.
-ghost use Rattle.std.specs.Prelude.{◌≡◌, false, map, ◌≤◌, length};
+ghost use Rattle.std.specs.Prelude.{◌≡◌, false, map, [], ◌∷◌, ◌++◌, ◌≤◌, length};
 ghost use Rattle.masks.specs.Outcome.{Writes};
-ghost use Rattle.masks.specs.ShapeBytes.{shape_from};
-ghost use Rattle.sheets.specs.Format.{shape_in, any_above_nine, blade_total};
+ghost use Rattle.masks.specs.ShapeBytes.{shape_bytes, shape_from};
+ghost use Rattle.sheets.specs.Format.{any_above_nine, blade_total};
 ghost use Rattle.sheets.specs.Shapes.{blank_shapes, shapes_of, listed_shapes, said_shapes, shape_list};
+ghost use Rattle.sheets.specs.inner.Items.{Makes};
 
 use super::bytes::{put_bytes, put_made};
 use masks::flavor::Flavor;
@@ -40,24 +41,29 @@ fn blank_shapes() -> [Shape; 64]
     [shape_of(0, Flavor::Vanilla); 64]
 }
 
-// The shape that the first five of its bytes say.
-fn shape_at<const N: usize>(bytes: [u8; N]) -> Shape
-    requires { 5 ≤ N }
-    ensures { result ≡ shape_from bytes }
+// The shape that five bytes say.
+pub(crate) fn shape_at(five: [u8; 5]) -> Shape
+    ensures { result ≡ shape_from five }
 {
-    shape_from(&[bytes[0], bytes[1], bytes[2], bytes[3], bytes[4], 0])
+    shape_from(&[five[0], five[1], five[2], five[3], five[4], 0])
 }
 
-// The shapes that bytes say, N bytes each, 5 as a sheet has them or 6 with the mark: all are counted, and the first 64 held.
-pub(crate) fn shapes_by<const N: usize>(bytes: &[u8]) -> Shapes
-    requires { 5 ≤ N }
-    ensures { result ≡ shapes_of (said_shapes N bytes.now) }
+// The shape that six bytes say.
+fn shape_in(six: [u8; 6]) -> Shape
+    ensures { result ≡ shape_from six }
 {
-    let (said, _) = bytes.as_chunks::<N>();
+    shape_from(&six)
+}
+
+// The shapes that f makes of each item: all are counted, and the first 64 held.
+pub(crate) fn shapes_by<A: Copy, F: Fn(A) -> Shape>(items: &[A], f: F) -> Shapes
+    requires { F.IsAlwaysCallable f }
+    ensures { (g : A → Shape) → Makes (F.post f) g items.now → result ≡ shapes_of (map g items.now) }
+{
     let mut held = blank_shapes();
-    put_made(&said[..said.len().min(MAX_SHAPES)], shape_at::<N>, &mut held);
+    put_made(&items[..items.len().min(MAX_SHAPES)], f, &mut held);
     Shapes {
-        count: said.len(),
+        count: items.len(),
         held,
     }
 }
@@ -66,15 +72,16 @@ pub(crate) fn shapes_by<const N: usize>(bytes: &[u8]) -> Shapes
 pub fn shapes_from(bytes: &[u8]) -> Shapes
     ensures { result ≡ shapes_of (said_shapes 6 bytes.now) }
 {
-    shapes_by::<6>(bytes)
+    let (sixes, _) = bytes.as_chunks::<6>();
+    shapes_by(sixes, shape_in)
 }
 
-// The first five bytes of a shape.
-pub(crate) fn five_bytes(shape: Shape) -> [u8; 5]
-    ensures { result ≡ shape_in 5 shape }
+// The six bytes of a shape, and two zeros.
+pub(crate) fn padded_bytes(shape: Shape) -> [u8; 8]
+    ensures { result ≡ shape_bytes shape ++ 0 ∷ 0 ∷ [] }
 {
     let six = shape_bytes(shape);
-    [six[0], six[1], six[2], six[3], six[4]]
+    [six[0], six[1], six[2], six[3], six[4], six[5], 0, 0]
 }
 
 // The list of a record's shapes, six bytes each, from the front of the output, and how many bytes it has.
@@ -86,7 +93,7 @@ pub fn shapes_to(shapes: Shapes, out: &mut [u8]) -> Result<usize, Refusal>
     if out.len() < size {
         return Err(Refusal::NoRoom);
     }
-    put_bytes(listed, shape_bytes, 0, out);
+    put_bytes(listed, 6, padded_bytes, 0, out);
     Ok(size)
 }
 

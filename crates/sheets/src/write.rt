@@ -7,7 +7,7 @@ ghost use Rattle.sheets.specs.Write.{write_sheet};
 
 use super::bytes::{pattern_bytes, put_bytes, put_number};
 use super::shapes::{
-    MAX_COEFFICIENTS, MAX_SHAPES, Shapes, any_above_nine, blade_total, five_bytes,
+    MAX_COEFFICIENTS, MAX_SHAPES, Shapes, any_above_nine, blade_total, padded_bytes,
 };
 use masks::outcome::Refusal;
 
@@ -50,8 +50,8 @@ pub fn write(shapes: Shapes, patterns: &[u64], out: &mut [u8]) -> Result<usize, 
     let n = shapes.count;
     let count = patterns.len();
     put_number(n as u64, 2, 0, out);
-    put_bytes(shapes.listed(), five_bytes, 2, out);
+    put_bytes(shapes.listed(), 5, padded_bytes, 2, out);
     put_number(count as u64, 4, 2 + 5 * n, out);
-    put_bytes(patterns, pattern_bytes, 6 + 5 * n, out);
+    put_bytes(patterns, 8, pattern_bytes, 6 + 5 * n, out);
     Ok(sheet_size(n, count))
 }
