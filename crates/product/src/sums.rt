@@ -5,16 +5,15 @@ ghost use Rattle.std.specs.Int.Count.{ones};
 ghost use Rattle.std.specs.Float.{nan, binary64};
 ghost use Rattle.std.specs.Float.Ieee.{add, sub, mul, neg, fits};
 ghost use Rattle.rounding.specs.Snap.{snap};
-ghost use Rattle.masks.specs.declared.flavor.Flavor.{Flavor};
 ghost use Rattle.masks.specs.Order.{up_from};
 ghost use Rattle.masks.specs.Outcome.{laid, nought};
-ghost use Rattle.product.specs.Mode.{flavor_for};
-ghost use Rattle.product.specs.Given.{at_mask, product_by};
-ghost use Rattle.product.specs.inner.Metric.{squares_below};
-ghost use Rattle.product.specs.inner.Sums.{meets, with_pairs, subset_from, beyond, turned_mask, turned_number, turned_at, low_mask, rows_below};
+ghost use Rattle.product.specs.Given.{at_mask};
+ghost use Rattle.product.specs.inner.Sums.{meets, with_pairs, subset_from, beyond, turned_mask, turned_number, turned_at, rows_below};
+ghost use Rattle.product.specs.inner.Plan.{plan_mask, taken_by, planned};
 
-use super::metric::{Blade, Squares, blade_of};
-use super::mode::Mode;
+use super::metric::{Blade, Squares, blade_of, squares_of};
+use super::mode::{Mode, flavor_for};
+use super::plan::Plan;
 use super::snap::snap_one;
 
 // Whether the number of ones is odd. Those of a byte are counted in fewer operations, and only nine dimensions need more.
@@ -44,10 +43,8 @@ fn add_all(dims: u8, blade: Blade, y: f64, am: &[f64], acc: &mut [f64])
     ensures { acc.new ≡ with_pairs (λ m. true) blade y am.now acc.old }
 {
     let ys = [y, -y];
-    let mut m: u32 = 0;
-    while (m as usize) < acc.len() {
+    for m in 0..acc.len() as u32 {
         add_pair(dims, m, blade, &ys, am, acc);
-        m += 1;
     }
 }
 
@@ -157,147 +154,84 @@ fn turn_out(turn: u32, acc: &mut [f64])
     }
 }
 
-// The mask of a place, of those that are given: its bits below n, which is 2^d.
-fn mask_at(given: &[u16], n: usize, i: usize) -> u32
-    requires { (0 < n) × (n ≤ 512) × (i < length given.now) }
-    ensures { (d : ℕ) → n ≡ 2 ^ d → result ≡ low_mask given.now d i }
+// The mask of a place, of those that are given: its bits below the dimensions.
+fn mask_at(plan: Plan, i: usize) -> u32
+    requires { i < 2 ^ plan.shape.dims }
+    ensures { result ≡ plan_mask plan.entry i }
 {
-    given[i] as u32 & (n as u32 - 1)
+    plan.given[i] as u32 & ((1 << plan.shape.dims) - 1)
 }
 
 // a's numbers by mask, in an array that is all +0.
-fn lay_out(dims: u8, given: &[u16], a: &[f64], am: &mut [f64])
-    requires { (dims ≤ 9) × (length a.now ≡ 2 ^ dims) × (2 ^ dims ≤ length given.now) × (am.old ≡ replicate (2 ^ dims) nought) }
-    ensures am_after { am.new ≡ map (at_mask (low_mask given.now dims) dims a.now (2 ^ dims)) (up_from 0 (2 ^ dims)) }
+fn lay_out(plan: Plan, a: &[f64], am: &mut [f64])
+    requires { (length a.now ≡ 2 ^ plan.shape.dims) × (am.old ≡ replicate (2 ^ plan.shape.dims) nought) }
+    ensures am_after { let d = plan.entry.shape.dims in am.new ≡ map (at_mask (plan_mask plan.entry) d a.now (2 ^ d)) (up_from 0 (2 ^ d)) }
     ensures by_index { (i : ℕ) → T (fits binary64 (get_or a.now i nan)) }
 {
-    let mut i: usize = 0;
-    while i < a.len() {
-        let m = mask_at(given, a.len(), i);
-        am[m as usize] = a[i];
-        i += 1;
+    for (i, x) in a.iter().enumerate() {
+        am[mask_at(plan, i) as usize] = *x;
     }
 }
 
 // The sums of all pairs, by mask, in an array that is all +0: b's places in order.
-fn add_blades(
-    dims: u8,
-    turn: u32,
-    given: &[u16],
-    mode: Mode,
-    s: Squares,
-    b: &[f64],
-    am: &[f64],
-    acc: &mut [f64],
-)
-    requires { (dims ≤ 9) × (length b.now ≡ 2 ^ dims) × (2 ^ dims ≤ length given.now) × (length am.now ≡ 2 ^ dims) × (acc.old ≡ replicate (2 ^ dims) nought) }
-    ensures { acc.new ≡ rows_below (2 ^ dims) (low_mask given.now dims) turn mode s am.now b.now (2 ^ dims) }
+fn add_blades(plan: Plan, squares: Squares, turn: u32, b: &[f64], am: &[f64], acc: &mut [f64])
+    requires { (length b.now ≡ 2 ^ plan.shape.dims) × (length am.now ≡ 2 ^ plan.shape.dims) × (acc.old ≡ replicate (2 ^ plan.shape.dims) nought) }
+    ensures { let n = 2 ^ plan.entry.shape.dims in acc.new ≡ rows_below n (plan_mask plan.entry) turn plan.entry.mode squares am.now b.now n }
 {
-    let mut j: usize = 0;
-    while j < b.len() {
-        let m = mask_at(given, b.len(), j);
-        let y = turned_number(turn, m, b[j]);
-        add_blade(dims, mode, blade_of(s, m), y, am, acc);
-        j += 1;
+    for (j, x) in b.iter().enumerate() {
+        let m = mask_at(plan, j);
+        let y = turned_number(turn, m, *x);
+        add_blade(plan.shape.dims, plan.mode, blade_of(squares, m), y, am, acc);
     }
 }
 
 // The sums at the places' masks, snapped.
-fn take_back(dims: u8, given: &[u16], acc: &[f64], out: &mut [f64])
-    requires { (dims ≤ 9) × (length acc.now ≡ 2 ^ dims) × (2 ^ dims ≤ length given.now) × (2 ^ dims ≤ length out.old) }
-    ensures { out.new ≡ laid (map (λ k. snap binary64 (get_or acc.now (low_mask given.now dims k) nan)) (up_from 0 (2 ^ dims))) out.old }
+fn take_back(plan: Plan, acc: &[f64], out: &mut [f64])
+    requires { (length acc.now ≡ 2 ^ plan.shape.dims) × (2 ^ plan.shape.dims ≤ length out.old) }
+    ensures { out.new ≡ laid (taken_by plan.entry acc.now) out.old }
 {
-    let mut k: usize = 0;
-    while k < acc.len() {
-        let m = mask_at(given, acc.len(), k);
-        out[k] = snap_one(acc[m as usize]);
-        k += 1;
+    for (k, x) in out[..acc.len()].iter_mut().enumerate() {
+        *x = snap_one(acc[mask_at(plan, k) as usize]);
     }
 }
 
-// The product of values whose places have the given masks. `am` and `acc` are lent, all +0.
-fn fill_by(
-    dims: u8,
-    given: &[u16],
-    mode: Mode,
-    s: Squares,
-    a: &[f64],
-    b: &[f64],
-    am: &mut [f64],
-    acc: &mut [f64],
-    out: &mut [f64],
-)
-    requires dims_bound { (dims ≤ 9) × (length a.now ≡ 2 ^ dims) × (length b.now ≡ 2 ^ dims) × (2 ^ dims ≤ length given.now) × (2 ^ dims ≤ length out.old) }
-    requires am_value { (am.old ≡ replicate (2 ^ dims) nought) × (acc.old ≡ replicate (2 ^ dims) nought) }
-    ensures { (f : Flavor) → s ≡ squares_below 9 (flavor_for mode f)
-        → out.new ≡ laid (product_by (low_mask given.now dims) dims mode f binary64 a.now b.now) out.old }
+// The product of values whose places have the masks of the plan. `am` and `acc` are lent, all +0.
+fn fill_by(plan: Plan, a: &[f64], b: &[f64], am: &mut [f64], acc: &mut [f64], out: &mut [f64])
+    requires a_len { (length a.now ≡ 2 ^ plan.shape.dims) × (length b.now ≡ 2 ^ plan.shape.dims) × (2 ^ plan.shape.dims ≤ length out.old) }
+    requires am_value { (am.old ≡ replicate (2 ^ plan.shape.dims) nought) × (acc.old ≡ replicate (2 ^ plan.shape.dims) nought) }
+    ensures { out.new ≡ laid (planned plan.entry a.now b.now) out.old }
 {
-    let turn = turned_mask(dims);
-    lay_out(dims, given, a, am);
+    let squares = squares_of(flavor_for(plan.mode, plan.shape.flavor));
+    let turn = turned_mask(plan.shape.dims);
+    lay_out(plan, a, am);
     turn_in(turn, am);
-    add_blades(dims, turn, given, mode, s, b, am, acc);
+    add_blades(plan, squares, turn, b, am, acc);
     turn_out(turn, acc);
-    take_back(dims, given, acc, out);
+    take_back(plan, acc, out);
+}
+
+// The same, by sums in arrays of N numbers.
+fn fill_in<const N: usize>(plan: Plan, a: &[f64], b: &[f64], out: &mut [f64])
+    requires a_len { (length a.now ≡ 2 ^ plan.shape.dims) × (length b.now ≡ 2 ^ plan.shape.dims) × (2 ^ plan.shape.dims ≤ length out.old) }
+    requires room { (2 ^ plan.shape.dims ≤ N) × (N ≤ 512) }
+    ensures { out.new ≡ laid (planned plan.entry a.now b.now) out.old }
+{
+    let mut am = [0.0; N];
+    let mut acc = [0.0; N];
+    let n = a.len();
+    fill_by(plan, a, b, &mut am[..n], &mut acc[..n], out);
 }
 
 // The same, in arrays as long as the dimensions want: what they are cleared for counts where there are few numbers.
-pub(crate) fn fill_given(
-    dims: u8,
-    given: &[u16],
-    mode: Mode,
-    s: Squares,
-    a: &[f64],
-    b: &[f64],
-    out: &mut [f64],
-)
-    requires { (dims ≤ 9) × (length a.now ≡ 2 ^ dims) × (length b.now ≡ 2 ^ dims) × (2 ^ dims ≤ length given.now) × (2 ^ dims ≤ length out.old) }
-    ensures { (f : Flavor) → s ≡ squares_below 9 (flavor_for mode f)
-        → out.new ≡ laid (product_by (low_mask given.now dims) dims mode f binary64 a.now b.now) out.old }
+pub(crate) fn fill_given(plan: Plan, a: &[f64], b: &[f64], out: &mut [f64])
+    requires { (length a.now ≡ 2 ^ plan.shape.dims) × (length b.now ≡ 2 ^ plan.shape.dims) × (2 ^ plan.shape.dims ≤ length out.old) }
+    ensures { out.new ≡ laid (planned plan.entry a.now b.now) out.old }
 {
-    let n = a.len();
-    if dims <= 4 {
-        let mut am = [0.0; 16];
-        let mut acc = [0.0; 16];
-        fill_by(
-            dims,
-            given,
-            mode,
-            s,
-            a,
-            b,
-            &mut am[0..n],
-            &mut acc[0..n],
-            out,
-        );
-        return;
+    if plan.shape.dims <= 4 {
+        fill_in::<16>(plan, a, b, out);
+    } else if plan.shape.dims <= 6 {
+        fill_in::<64>(plan, a, b, out);
+    } else {
+        fill_in::<512>(plan, a, b, out);
     }
-    if dims <= 6 {
-        let mut am = [0.0; 64];
-        let mut acc = [0.0; 64];
-        fill_by(
-            dims,
-            given,
-            mode,
-            s,
-            a,
-            b,
-            &mut am[0..n],
-            &mut acc[0..n],
-            out,
-        );
-        return;
-    }
-    let mut am = [0.0; 512];
-    let mut acc = [0.0; 512];
-    fill_by(
-        dims,
-        given,
-        mode,
-        s,
-        a,
-        b,
-        &mut am[0..n],
-        &mut acc[0..n],
-        out,
-    );
 }

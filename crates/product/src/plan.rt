@@ -1,0 +1,15 @@
+// How a product is made.
+ghost use Rattle.std.specs.Prelude.{◌^◌, ◌≤◌, length};
+
+use super::mode::Mode;
+use masks::shape::Shape;
+
+// The shape of the values, which pairs are taken, and the masks of the places, which are as many as the values have.
+#[derive(Clone, Copy)]
+pub struct Plan<'a> {
+    pub shape: Shape,
+    pub mode: Mode,
+    pub given: &'a [u16],
+    ghost small: { shape.dims ≤ 9 },
+    ghost enough: { 2 ^ shape.dims ≤ length given.now },
+}
