@@ -7,7 +7,7 @@ use lib.Count.{ones, ones_in}
 use lib.Ieee.{Float, fin, neg, add, mul, of_int, round, eq, lt, is_nan, binary64, to_bits}
 use lib.IntN.{pos, negsuc, pow, one}
 use lib.ListN.{replicate}
-use Rattle.std.specs.Prelude.{Greater}
+use Rattle.std.specs.declared.cmp.Ordering.TheVariants.{Greater}
 use Rattle.clifford.specs.Blade.{has, count}
 use Rattle.clifford.specs.Sign.{sign}
 use Rattle.clifford.specs.Metric.{swaps, shared, turned, metric}
