@@ -83,7 +83,7 @@ fn sum_in<const N: usize>(flavor: Flavor, dims: u8, a: &[f64]) -> f64
 
 // The squared magnitude of a value.
 pub fn squared_magnitude(shape: Shape, a: &[f64]) -> Result<f64, Refusal>
-    ensures { let o = squared_magnitude shape a.now in IsAnswer o.number o.value result }
+    ensures { IsAnswer (squared_magnitude shape a.now).number (squared_magnitude shape a.now).value result }
 {
     value_refusal(shape.dims, a.len())?;
     let flavor = shape.flavor;
