@@ -23,7 +23,9 @@ use Rattle.masks.specs.Build.{padded, at_grade, one_grade, n_1_tests, n_1_blades
 use Rattle.masks.specs.Unpack.{choose}
 use Rattle.masks.proofs.ListLaws.{get_d_past, sets_laid, laid_over}
 use Rattle.masks.proofs.OrderLaws.{length_grade, length_order, grade_at, size_zero, start_all, size_above, part_fits}
-use Rattle.masks.proofs.OutcomeLaws.{past, refused_first, refused_later, unless_done}
+use Rattle.std.specs.Prelude.{Result, Ok}
+use Rattle.masks.specs.declared.outcome.Refusal.{Refusal}
+use Rattle.masks.proofs.OutcomeLaws.{past, refused_first, refused_later, answer_one, unless_done, unless_ok}
 
 -- ---- numbers from a place on
 
@@ -353,10 +355,10 @@ built_taken d room e =
     (ltb-false _ _ p.0, ltb-false _ _ q.0)
 
 -- where the call is not refused, the order's masks are written
-pub put_order_done : {d r : ℕ} {before after : List ℕ} → GivesOrder d r before after → d ≤ 9 → 2 ^ d ≤ length before → (r ≡ 0) × (after ≡ laid (order d) before)
+pub put_order_done : {d : ℕ} {r : Result (Unit {0}) Refusal} {before after : List ℕ} → GivesOrder d r before after → d ≤ 9 → 2 ^ d ≤ length before → (r ≡ Ok tt) × (after ≡ laid (order d) before)
 put_order_done {d = d} {r = r} {before = before} g h l =
-    let e = g.answered ∙ built_done d (length before) h l in
-    (e, g.left ∙ ap (λ (xs : List ℕ). laid xs before) (unless_done (λ _. []) r r (order d) refl e))
+    let e = built_done d (length before) h l in
+    (answer_one _ tt r (Ok tt) g.answered (e, refl), g.left ∙ ap (λ (xs : List ℕ). laid xs before) (unless_ok (λ _. []) _ (order d) e))
 
 -- the numbers of the grade below the last are at least 2
 module _ (n room : ℕ) where

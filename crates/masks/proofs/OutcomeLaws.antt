@@ -1,16 +1,19 @@
 -- What holds where a call is refused and where it is not; and that a contract of each kind leaves nothing open. Assumes nothing.
-use mathlib.Core.Path.{◌≡◌, refl, sym, ap, ◌∙◌}
+use mathlib.Core.Path.{◌≡◌, refl, sym, ap, ap₂, ◌∙◌}
 use mathlib.Core.Bool.{Bool, true, false, not, cond}
 use mathlib.Core.List.{List, [], ◌∷◌, ◌++◌}
 use Prim.Native.Nat.{ℕ, zero, suc, ◌^◌, ◌≤◌}
 use native.Mathlib.Omega.{arith}
 use lib.Ieee.{Float}
+use lib.ListN.{length}
+use lib.Dec.{eqb}
 use borrow.Author.Tests.{le-ltb, ltb-false, eq-eqb, eqb-true, not-false}
-use Rattle.masks.specs.declared.outcome.Answer.{Answer}
-use Rattle.masks.specs.declared.outcome.Answers.{Answers}
-use Rattle.masks.specs.declared.outcome.Count.{Count}
+use Rattle.std.specs.Prelude.{Result, Ok, Err}
+use Rattle.masks.specs.declared.outcome.Refusal.{Refusal}
+use Rattle.masks.specs.declared.outcome.Refusal.TheVariants.{TooManyDims, WrongCount, NoRoom, NoSuchGrade, Planar, LeastPower, NoFlavor, NoSpec, Malformed, BadLog}
+use Rattle.masks.specs.declared.shape.Shape.{Shape}
 use Rattle.masks.specs.Order.{order, GivesOrder}
-use Rattle.masks.specs.Outcome.{Test, refusal, too_many, wrong_count, no_room, result_tests, pair_tests, unless, laid, Outcome, refused_value, answer_of, Gives, Pair, refused_pair, answers_of, GivesBoth, Written, refused_list, count_of, Writes}
+use Rattle.masks.specs.Outcome.{Test, refusal, too_many, wrong_count, no_room, result_tests, pair_tests, number_of, IsAnswer, unless, laid, Outcome, refused_value, Gives, Pair, refused_pair, GivesBoth, Written, refused_list, Writes}
 
 -- ---- lists of tests
 
@@ -119,6 +122,50 @@ sooner n (t ∷ ts) us e h = go t.fails e (λ q. sooner n ts us q h)
     go true q f = q
     go false q f = f q
 
+-- ---- answers
+
+-- No refusal has the number 0.
+pub refuses : (e : Refusal) → number_of e ≡ 0 → ⊥
+refuses TooManyDims q = omega arith
+refuses WrongCount q = omega arith
+refuses NoRoom q = omega arith
+refuses NoSuchGrade q = omega arith
+refuses Planar q = omega arith
+refuses LeastPower q = omega arith
+refuses NoFlavor q = omega arith
+refuses NoSpec q = omega arith
+refuses Malformed q = omega arith
+refuses BadLog q = omega arith
+
+-- The refusal of a number.
+abbrev refusal_at : ℕ → Refusal
+refusal_at n =
+    cond (eqb n 1) TooManyDims (cond (eqb n 2) WrongCount (cond (eqb n 3) NoRoom (cond (eqb n 4) NoSuchGrade (cond (eqb n 5) Planar
+    (cond (eqb n 6) LeastPower (cond (eqb n 7) NoFlavor (cond (eqb n 8) NoSpec (cond (eqb n 9) Malformed BadLog))))))))
+
+at_number : (e : Refusal) → refusal_at (number_of e) ≡ e
+at_number TooManyDims = refl
+at_number WrongCount = refl
+at_number NoRoom = refl
+at_number NoSuchGrade = refl
+at_number Planar = refl
+at_number LeastPower = refl
+at_number NoFlavor = refl
+at_number NoSpec = refl
+at_number Malformed = refl
+at_number BadLog = refl
+
+-- No two refusals have one number.
+pub number_one : (e f : Refusal) → number_of e ≡ number_of f → e ≡ f
+number_one e f q = sym (at_number e) ∙ ap refusal_at q ∙ at_number f
+
+-- A number and a value determine the answer.
+pub answer_one : {A : Type 0} (k : ℕ) (a : A) (r q : Result A Refusal) → IsAnswer k a r → IsAnswer k a q → r ≡ q
+answer_one k a (Ok x) (Ok y) p q = ap (λ z. Ok z) (p.1 ∙ sym q.1)
+answer_one k a (Ok x) (Err e) p q = absurd (refuses e (sym q ∙ p.0))
+answer_one k a (Err e) (Ok y) p q = absurd (refuses e (sym p ∙ q.0))
+answer_one k a (Err e) (Err f) p q = ap (λ z. Err z) (number_one e f (sym p ∙ q))
+
 -- ---- the result, or a refusal
 
 module _ {ℓ} {A : Type ℓ} (f : ℕ → A) where
@@ -133,31 +180,47 @@ module _ {ℓ} {A : Type ℓ} (f : ℕ → A) where
   unless_done zero n a e h = refl
   unless_done (suc k) n a e h = absurd (omega arith)
 
+  -- the number k that was worked out is that of a refusal, or 0
+  pub unless_err : (k : ℕ) (e : Refusal) (a : A) → k ≡ number_of e → unless f k a ≡ f (number_of e)
+  unless_err k e a h = unless_refused k (number_of e) a (sym h) (refuses e)
+
+  pub unless_ok : (k : ℕ) (a : A) → k ≡ 0 → unless f k a ≡ a
+  unless_ok k a h = unless_done k 0 a (sym h) refl
+
 -- a call's number is that of the refusal that was worked out
 pub unless_number : {A : Type 0} (n : A → ℕ) (f : ℕ → A) (k : ℕ) (a : A) → n (f k) ≡ k → n a ≡ 0 → n (unless f k a) ≡ k
 unfolding unless
 unless_number n f zero a e z = z
 unless_number n f (suc k) a e z = e
 
--- a refusal gives its number and leaves the output
-pub gives_refused : (k n : ℕ) (o : Outcome) (r : Answer) (out : List Float) → n ≡ k → (n ≡ 0 → ⊥) → r ≡ answer_of (refused_value n) → Gives (unless refused_value k o) r out out
-gives_refused k n o r out e h a = rw (unless_refused refused_value k n o e h) (record { answered = a; left = refl })
+-- An outcome of a call with its number and its value, where the number that was worked out is that of a refusal, and where it is 0.
+module _ {O A : Type 0} (n : O → ℕ) (v : O → A) (f : ℕ → O) (k : ℕ) (o : O) where
+  pub answered_err : (e : Refusal) → n (f (number_of e)) ≡ number_of e → k ≡ number_of e → IsAnswer (n (unless f k o)) (v (unless f k o)) (Err e)
+  answered_err e q h = ap n (unless_err f k e o h) ∙ q
 
-pub gives_done : (k n : ℕ) (o : Outcome) (r : Answer) (before after : List Float) → n ≡ k → n ≡ 0 → r ≡ answer_of o → after ≡ laid o.coefs before → Gives (unless refused_value k o) r before after
-gives_done k n o r before after e h a l = rw (unless_done refused_value k n o e h) (record { answered = a; left = l })
+  pub answered_ok : (x : A) → n o ≡ 0 → k ≡ 0 → x ≡ v o → IsAnswer (n (unless f k o)) (v (unless f k o)) (Ok x)
+  answered_ok x z h q = (ap n (unless_ok f k o h) ∙ z, q ∙ sym (ap v (unless_ok f k o h)))
 
-pub gives_both_refused : (k n : ℕ) (o : Pair) (r : Answers) (out outRight : List Float) → n ≡ k → (n ≡ 0 → ⊥) → r ≡ answers_of (refused_pair n) → GivesBoth (unless refused_pair k o) r out out outRight outRight
-gives_both_refused k n o r out outRight e h a = rw (unless_refused refused_pair k n o e h) (record { answered = a; left = refl; right = refl })
+-- a refusal is answered and leaves the output
+pub gives_refused : (k : ℕ) (e : Refusal) (o : Outcome) (out : List Float) → k ≡ number_of e → Gives (unless refused_value k o) (Err e) out out
+gives_refused k e o out h = rw (unless_err refused_value k e o h) (record { answered = refl; left = refl })
 
-pub gives_both_done : (k n : ℕ) (o : Pair) (r : Answers) (before after beforeRight afterRight : List Float) → n ≡ k → n ≡ 0 → r ≡ answers_of o → after ≡ laid o.left_coefs before → afterRight ≡ laid o.right_coefs beforeRight → GivesBoth (unless refused_pair k o) r before after beforeRight afterRight
-gives_both_done k n o r before after beforeRight afterRight e h a l m = rw (unless_done refused_pair k n o e h) (record { answered = a; left = l; right = m })
+pub gives_done : (k : ℕ) (o : Outcome) (s : Shape) (before after : List Float) → k ≡ 0 → o.number ≡ 0 → s ≡ o.shape → after ≡ laid o.coefs before → Gives (unless refused_value k o) (Ok s) before after
+gives_done k o s before after h z a l = rw (unless_ok refused_value k o h) (record { answered = (z, a); left = l })
+
+pub gives_both_refused : (k : ℕ) (e : Refusal) (o : Pair) (out outRight : List Float) → k ≡ number_of e → GivesBoth (unless refused_pair k o) (Err e) out out outRight outRight
+gives_both_refused k e o out outRight h = rw (unless_err refused_pair k e o h) (record { answered = refl; left = refl; right = refl })
+
+pub gives_both_done : (k : ℕ) (o : Pair) (s t : Shape) (before after beforeRight afterRight : List Float) → k ≡ 0 → o.number ≡ 0 → s ≡ o.left_shape → t ≡ o.right_shape → after ≡ laid o.left_coefs before → afterRight ≡ laid o.right_coefs beforeRight → GivesBoth (unless refused_pair k o) (Ok (s, t)) before after beforeRight afterRight
+gives_both_done k o s t before after beforeRight afterRight h z a b l m =
+    rw (unless_ok refused_pair k o h) (record { answered = (z, ap₂ (λ x y. (x, y)) a b); left = l; right = m })
 
 module _ {A : Type 0} where
-  pub writes_refused : (k n : ℕ) (o : Written A) (r : Count) (out : List A) → n ≡ k → (n ≡ 0 → ⊥) → r ≡ record { number = n; count = 0 } → Writes (unless refused_list k o) r out out
-  writes_refused k n o r out e h a = rw (unless_refused refused_list k n o e h) (record { counted = a; left = refl })
+  pub writes_refused : (k : ℕ) (e : Refusal) (o : Written A) (out : List A) → k ≡ number_of e → Writes (unless refused_list k o) (Err e) out out
+  writes_refused k e o out h = rw (unless_err refused_list k e o h) (record { counted = refl; left = refl })
 
-  pub writes_done : (k n : ℕ) (o : Written A) (r : Count) (before after : List A) → n ≡ k → n ≡ 0 → r ≡ count_of o → after ≡ laid o.items before → Writes (unless refused_list k o) r before after
-  writes_done k n o r before after e h a l = rw (unless_done refused_list k n o e h) (record { counted = a; left = l })
+  pub writes_done : (k : ℕ) (o : Written A) (n : ℕ) (before after : List A) → k ≡ 0 → o.number ≡ 0 → n ≡ length o.items → after ≡ laid o.items before → Writes (unless refused_list k o) (Ok n) before after
+  writes_done k o n before after h z a l = rw (unless_ok refused_list k o h) (record { counted = (z, a); left = l })
 
 -- ---- the tests of a call on one value or on two
 
@@ -210,16 +273,14 @@ not_refused (suc k) o e = absurd (omega arith)
 
 -- ---- nothing is left open: an outcome and what the output held determine the answer and what it holds after
 
-pub gives_one : {o : Outcome} {r r' : Answer} {before after after' : List Float} → Gives o r before after → Gives o r' before after' → (r ≡ r') × (after ≡ after')
-gives_one g h = (g.answered ∙ sym h.answered, g.left ∙ sym h.left)
+pub gives_one : {o : Outcome} {r r' : Result Shape Refusal} {before after after' : List Float} → Gives o r before after → Gives o r' before after' → (r ≡ r') × (after ≡ after')
+gives_one {o = o} g h = (answer_one o.number o.shape _ _ g.answered h.answered, g.left ∙ sym h.left)
 
-pub gives_both_one : {o : Pair} {r r' : Answers} {b a a' bRight aRight aRight' : List Float} → GivesBoth o r b a bRight aRight → GivesBoth o r' b a' bRight aRight' → (r ≡ r') × (a ≡ a') × (aRight ≡ aRight')
-gives_both_one g h = (g.answered ∙ sym h.answered, g.left ∙ sym h.left, g.right ∙ sym h.right)
+pub gives_both_one : {o : Pair} {r r' : Result (Shape × Shape) Refusal} {b a a' bRight aRight aRight' : List Float} → GivesBoth o r b a bRight aRight → GivesBoth o r' b a' bRight aRight' → (r ≡ r') × (a ≡ a') × (aRight ≡ aRight')
+gives_both_one {o = o} g h = (answer_one o.number (o.left_shape, o.right_shape) _ _ g.answered h.answered, g.left ∙ sym h.left, g.right ∙ sym h.right)
 
-pub writes_one : {A : Type 0} {o : Written A} {r r' : Count} {before after after' : List A} → Writes o r before after → Writes o r' before after' → (r ≡ r') × (after ≡ after')
-writes_one g h = (g.counted ∙ sym h.counted, g.left ∙ sym h.left)
+pub writes_one : {A : Type 0} {o : Written A} {r r' : Result ℕ Refusal} {before after after' : List A} → Writes o r before after → Writes o r' before after' → (r ≡ r') × (after ≡ after')
+writes_one {o = o} g h = (answer_one o.number (length o.items) _ _ g.counted h.counted, g.left ∙ sym h.left)
 
-pub gives_order_one : {d r r' : ℕ} {before after after' : List ℕ} → GivesOrder d r before after → GivesOrder d r' before after' → (r ≡ r') × (after ≡ after')
-gives_order_one {d = d} {before = before} g h =
-    let e = g.answered ∙ sym h.answered in
-    (e, g.left ∙ ap (λ (k : ℕ). laid (unless (λ _. []) k (order d)) before) e ∙ sym h.left)
+pub gives_order_one : {d : ℕ} {r r' : Result (Unit {0}) Refusal} {before after after' : List ℕ} → GivesOrder d r before after → GivesOrder d r' before after' → (r ≡ r') × (after ≡ after')
+gives_order_one g h = (answer_one _ tt _ _ g.answered h.answered, g.left ∙ sym h.left)

@@ -13,10 +13,9 @@ use Rattle.masks.specs.declared.flavor.Flavor.{Flavor}
 use Rattle.masks.specs.declared.flavor.Flavor.TheVariants.{Vanilla, Projective, Cl}
 use Rattle.masks.specs.declared.text.Octet.{Octet}
 use Rattle.masks.specs.declared.text.Octet.TheVariants.{Is, Missing}
-use Rattle.masks.specs.declared.text.Read.{Read}
 use Rattle.masks.specs.Outcome.{refusal, unless}
 use Rattle.masks.specs.inner.Text.{spec, spec_of, read_cl}
-use Rattle.masks.specs.Text.{decimal_digit, every, same, decimal_value, unsigned, octet_of, octet, is_octet, or_zero, part, after_part, read_as, refused_read, vga, pga, begins_cl, spec_in, is_spec, cl_of, read_flavor, decimal, spaced, text_of}
+use Rattle.masks.specs.Text.{decimal_digit, every, same, decimal_value, unsigned, octet_of, octet, is_octet, or_zero, part, after_part, read_as, refused_read, vga, pga, begins_cl, spec_in, is_spec, cl_of, Read, read_flavor, decimal, spaced, text_of}
 use Rattle.masks.proofs.ListLaws.{sets_append, same_eq}
 use Rattle.masks.proofs.TextScan.{drop_end, every_end, every_not, every_on, same_nil, same_not}
 

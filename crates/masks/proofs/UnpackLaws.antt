@@ -11,13 +11,12 @@ use lib.Ieee.{Float, nan}
 use lib.ListN.{length, get_or, take, drop, length-take, length-drop, length-map, replicate, length-replicate}
 use lib.Seq.{length-take-le, drop_at, take_at, sets}
 use lib.Pow.{pow_pos, ones_lt}
-use Rattle.masks.specs.declared.outcome.Count.{Count}
 use Rattle.masks.specs.declared.shape.Shape.{Shape}
 use Rattle.masks.specs.declared.flavor.Flavor.{Flavor}
 use Rattle.masks.specs.declared.flavor.Flavor.TheVariants.{Vanilla}
 use Rattle.masks.specs.declared.build.Packing.TheVariants.{Grade}
 use Rattle.masks.specs.Order.{grade, grades_below, order, size, start, index_of, place}
-use Rattle.masks.specs.Outcome.{Outcome, shape_of, refusal, result_tests, unless, laid, refused_list, listed, count_of, nought}
+use Rattle.masks.specs.Outcome.{Outcome, shape_of, refusal, result_tests, unless, laid, refused_list, listed, nought}
 use Rattle.masks.specs.Flavor.{added_dims}
 use Rattle.masks.specs.Shape.{coef}
 use Rattle.masks.specs.Blade.{get_blade, grade_refusal, grade_part}
@@ -68,7 +67,7 @@ half_held odd dims d count a held buf c e =
 
 -- ---- what the code answers
 
-pub counts : (n : ℕ) (f : ℕ → Float) (ms : List ℕ) → n ≡ length ms → ◌≡◌ {A = Count} (record { number = 0; count = n }) (count_of (listed (map f ms)))
+pub counts : (n : ℕ) (f : ℕ → Float) (ms : List ℕ) → n ≡ length ms → n ≡ length (map f ms)
 counts n f ms e = rw (length-map ms f, e)
 
 -- the masks of grade 1 are as many as the dimensions

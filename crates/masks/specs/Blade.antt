@@ -1,9 +1,8 @@
 -- Single blades, and one grade of a value. Assumes nothing.
 use Rattle.std.specs.Prelude.{not, cond, List, [], ◌∷◌, ◌++◌, ℕ, zero, suc, ◌+◌, ◌-◌, ◌^◌, ltb, Float, length, set, take, drop}
 use Rattle.masks.specs.declared.shape.Shape.{Shape}
-use Rattle.masks.specs.declared.outcome.Real.{Real}
 use Rattle.masks.specs.Order.{place, size, start}
-use Rattle.masks.specs.Outcome.{Test, Outcome, refusal, too_many, wrong_count, no_room, value_tests, unless, value, refused_value, refused_real}
+use Rattle.masks.specs.Outcome.{Test, Outcome, refusal, too_many, wrong_count, no_room, value_tests, unless, value, refused_value, Real, refused_real}
 use Rattle.masks.specs.Shape.{coef, with_dims, resized}
 
 -- ---- single blades

@@ -1,13 +1,11 @@
--- What a call gives: its number, its results, and what it writes from the front of the caller's output. Assumes nothing.
-use Rattle.std.specs.Prelude.{◌≡◌, Bool, false, not, cond, List, [], ◌∷◌, ◌++◌, ℕ, zero, suc, ◌^◌, eqb, ltb, Float, pos, length, drop}
+-- What a call gives: its number, its results, and what it writes from the front of the caller's output; and what it answers. Assumes nothing.
+use Rattle.std.specs.Prelude.{◌≡◌, Bool, false, not, cond, List, [], ◌∷◌, ◌++◌, ℕ, zero, suc, ◌^◌, eqb, ltb, Float, pos, length, drop, Result, MatchResult}
 use Rattle.std.specs.Float.{fin}
 use Rattle.masks.specs.declared.flavor.Flavor.{Flavor}
 use Rattle.masks.specs.declared.flavor.Flavor.TheVariants.{Vanilla}
 use Rattle.masks.specs.declared.shape.Shape.{Shape}
-use Rattle.masks.specs.declared.outcome.Answer.{Answer}
-use Rattle.masks.specs.declared.outcome.Answers.{Answers}
-use Rattle.masks.specs.declared.outcome.Count.{Count}
-use Rattle.masks.specs.declared.outcome.Real.{Real}
+use Rattle.masks.specs.declared.outcome.Refusal.{Refusal}
+use Rattle.masks.specs.declared.outcome.Refusal.TheVariants.{TooManyDims, WrongCount, NoRoom, NoSuchGrade, Planar, LeastPower, NoFlavor, NoSpec, Malformed, BadLog}
 
 -- ---- refusals
 
@@ -51,6 +49,25 @@ unfoldable pub unless {ℓ} : {A : Type ℓ} → (ℕ → A) → ℕ → A → A
 unless refused zero a = a
 unless refused (suc k) a = refused (suc k)
 
+-- ---- answers
+
+-- The number of a refusal.
+abbrev pub number_of : Refusal → ℕ
+number_of TooManyDims = 1
+number_of WrongCount = 2
+number_of NoRoom = 3
+number_of NoSuchGrade = 4
+number_of Planar = 5
+number_of LeastPower = 6
+number_of NoFlavor = 7
+number_of NoSpec = 8
+number_of Malformed = 9
+number_of BadLog = 10
+
+-- A call whose number is 0 answers `Ok a`; any other answers the refusal that has its number.
+abbrev pub IsAnswer : {A : Type 0} → ℕ → A → Result A Refusal → Type 0
+IsAnswer k a r = MatchResult r (λ x. (k ≡ 0) × (x ≡ a)) (λ refused. k ≡ number_of refused)
+
 -- ---- outputs
 
 -- An output holds after a call what was written from the front, and past that what was there.
@@ -76,13 +93,9 @@ refused_value k = record { number = k; shape = shape_of 0 Vanilla; coefs = [] }
 abbrev pub value : Shape → List Float → Outcome
 value s xs = record { number = 0; shape = s; coefs = xs }
 
--- The answer has the outcome's number and shape; the coefficients are in the output.
-abbrev pub answer_of : Outcome → Answer
-answer_of o = record { number = o.number; shape = o.shape }
-
--- The answer r, and the output's numbers before and after, are those of the outcome.
-pub record Gives (o : Outcome) (r : Answer) (before after : List Float) : Type 0 where
-  pub answered : r ≡ answer_of o
+-- The answer r has the outcome's shape or refusal, and the output's numbers before and after are those of the outcome.
+pub record Gives (o : Outcome) (r : Result Shape Refusal) (before after : List Float) : Type 0 where
+  pub answered : IsAnswer o.number o.shape r
   pub left : after ≡ laid o.coefs before
 
 -- ---- two values
@@ -99,13 +112,9 @@ abbrev pub refused_pair : ℕ → Pair
 refused_pair k =
     record { number = k; left_shape = shape_of 0 Vanilla; right_shape = shape_of 0 Vanilla; left_coefs = []; right_coefs = [] }
 
--- The answer has the pair's number and shapes.
-abbrev pub answers_of : Pair → Answers
-answers_of o = record { number = o.number; left = o.left_shape; right = o.right_shape }
-
--- The answer r, and both outputs' numbers before and after, are those of the pair.
-pub record GivesBoth (o : Pair) (r : Answers) (before after beforeRight afterRight : List Float) : Type 0 where
-  pub answered : r ≡ answers_of o
+-- The answer r has the pair's shapes or refusal, and both outputs' numbers before and after are those of the pair.
+pub record GivesBoth (o : Pair) (r : Result (Shape × Shape) Refusal) (before after beforeRight afterRight : List Float) : Type 0 where
+  pub answered : IsAnswer o.number (o.left_shape, o.right_shape) r
   pub left : after ≡ laid o.left_coefs before
   pub right : afterRight ≡ laid o.right_coefs beforeRight
 
@@ -123,14 +132,17 @@ refused_list k = record { number = k; items = [] }
 abbrev pub listed : {A : Type 0} → List A → Written A
 listed xs = record { number = 0; items = xs }
 
--- The answer has the list's number and count.
-abbrev pub count_of : {A : Type 0} → Written A → Count
-count_of o = record { number = o.number; count = length o.items }
-
--- The answer r, and the output before and after, are those of the list.
-pub record Writes {A : Type 0} (o : Written A) (r : Count) (before after : List A) : Type 0 where
-  pub counted : r ≡ count_of o
+-- The answer r has the list's count or refusal, and the output before and after is that of the list.
+pub record Writes {A : Type 0} (o : Written A) (r : Result ℕ Refusal) (before after : List A) : Type 0 where
+  pub counted : IsAnswer o.number (length o.items) r
   pub left : after ≡ laid o.items before
+
+-- ---- a count
+
+-- How many there are.
+pub record Count : Type 0 where
+  pub number : ℕ
+  pub count : ℕ
 
 -- A refusal's count is 0.
 abbrev pub refused_count : ℕ → Count
@@ -141,6 +153,10 @@ refused_count k = record { number = k; count = 0 }
 -- `nought` is +0.
 abbrev pub nought : Float
 nought = fin false 0 (pos 0)
+
+pub record Real : Type 0 where
+  pub number : ℕ
+  pub value : Float
 
 -- A refusal has its number, and the value 0.
 abbrev pub refused_real : ℕ → Real

@@ -105,6 +105,10 @@ both_tests d e n count countRight room roomRight =
 abbrev pub meeting_dims : Shape → Shape → ℕ
 meeting_dims s t = max (s.dims + promotes s.flavor t.flavor) (t.dims + promotes t.flavor s.flavor)
 
+-- Two values conform as they stand where their dimensions are equal and neither is promoted.
+abbrev pub agree : Shape → Shape → Bool
+agree s t = eqb s.dims t.dims && eqb (promotes s.flavor t.flavor + promotes t.flavor s.flavor) 0
+
 -- The Vanilla one of a Vanilla and Projective pair is promoted, then the smaller is grown.
 unfoldable pub conform : Shape → Shape → List Float → List Float → ℕ → ℕ → Pair
 conform s t a b room roomRight =

@@ -4,7 +4,6 @@ use Rattle.masks.specs.declared.flavor.Flavor.{Flavor}
 use Rattle.masks.specs.declared.flavor.Flavor.TheVariants.{Vanilla, Projective, Cl}
 use Rattle.masks.specs.declared.text.Octet.{Octet}
 use Rattle.masks.specs.declared.text.Octet.TheVariants.{Is, Missing}
-use Rattle.masks.specs.declared.text.Read.{Read}
 use Rattle.masks.specs.Outcome.{Test, Written, refusal, no_room, unless, refused_list, listed}
 
 -- ---- bytes
@@ -92,6 +91,10 @@ or_zero (Is n) = n
 or_zero Missing = 0
 
 -- ---- reading
+
+pub record Read : Type 0 where
+  pub number : ℕ
+  pub flavor : Flavor
 
 -- A flavor that was read has number 0.
 abbrev pub read_as : Flavor → Read

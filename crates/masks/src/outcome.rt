@@ -1,6 +1,6 @@
-// What calls answer, the refusal numbers, and the tests that lead to them.
-ghost use Rattle.std.specs.Prelude.{◌≡◌, []};
-ghost use Rattle.masks.specs.Outcome.{answer_of, answers_of, refused_value, refused_pair, value, shape_of, refusal, value_tests, result_tests, pair_tests};
+// Why calls are refused, and the tests that lead to it.
+ghost use Rattle.std.specs.Prelude.{◌≡◌};
+ghost use Rattle.masks.specs.Outcome.{number_of, IsAnswer, shape_of, refusal, value_tests, result_tests, pair_tests};
 
 use super::flavor::Flavor;
 use super::order::blades;
@@ -11,54 +11,28 @@ pub const MAX_DIMS: u8 = 9;
 
 pub const MAX_BLADES: u16 = 512;
 
-// Done, and the refusals of document 01.
-pub const DONE: u8 = 0;
-
-pub const TOO_MANY_DIMS: u8 = 1;
-
-pub const WRONG_COUNT: u8 = 2;
-
-pub const NO_ROOM: u8 = 3;
-
-pub const NO_SUCH_GRADE: u8 = 4;
-
-pub const PLANAR: u8 = 5;
-
-pub const LEAST_POWER: u8 = 6;
-
-pub const NO_FLAVOR: u8 = 7;
-
-pub const NO_SPEC: u8 = 8;
-
-pub const MALFORMED: u8 = 9;
-
-// A value: its coefficients are in the caller's output.
-#[derive(Clone, Copy)]
-pub struct Answer {
-    pub number: u8,
-    pub shape: Shape,
+// Why a call is refused. The lowest number that applies is given.
+#[derive(Clone, Copy, PartialEq, Eq, Debug)]
+pub enum Refusal {
+    TooManyDims = 1,
+    WrongCount = 2,
+    NoRoom = 3,
+    NoSuchGrade = 4,
+    Planar = 5,
+    LeastPower = 6,
+    NoFlavor = 7,
+    NoSpec = 8,
+    Malformed = 9,
+    BadLog = 10,
 }
 
-// Two values: their coefficients are in the caller's two outputs.
-#[derive(Clone, Copy)]
-pub struct Answers {
-    pub number: u8,
-    pub left: Shape,
-    pub right: Shape,
-}
-
-// A count: of what is in the caller's output, of blades, or the size of a grade.
-#[derive(Clone, Copy)]
-pub struct Count {
-    pub number: u8,
-    pub count: usize,
-}
-
-// One number.
-#[derive(Clone, Copy)]
-pub struct Real {
-    pub number: u8,
-    pub value: f64,
+impl Refusal {
+    // The number of document 01 and 02.
+    pub fn number(self) -> u8
+        ensures { result ≡ number_of self }
+    {
+        self as u8
+    }
 }
 
 // A shape made anew.
@@ -68,65 +42,43 @@ pub fn shape_of(dims: u8, flavor: Flavor) -> Shape
     Shape { dims, flavor }
 }
 
-pub fn refused(number: u8) -> Answer
-    ensures { result ≡ answer_of (refused_value number) }
-{
-    let shape = shape_of(0, Flavor::Vanilla);
-    Answer { number, shape }
-}
-
-pub fn done(shape: Shape) -> Answer
-    ensures { result ≡ answer_of (value shape []) }
-{
-    Answer {
-        number: DONE,
-        shape,
-    }
-}
-
-pub(crate) fn refused_pair(number: u8) -> Answers
-    ensures { result ≡ answers_of (refused_pair number) }
-{
-    let left = shape_of(0, Flavor::Vanilla);
-    let right = shape_of(0, Flavor::Vanilla);
-    Answers {
-        number,
-        left,
-        right,
-    }
-}
-
-// The number that a call is refused with, or 0: its value has `dims` dimensions and `count` numbers, its result stands in
-// `res` dimensions, has `needed` numbers and goes to `room`.
-pub fn refusal_of(dims: u8, res: u8, count: usize, room: usize, needed: usize) -> u8
-    ensures { result ≡ refusal (result_tests dims res count room needed) }
+// Whether a call is refused: its value has `dims` dimensions and `count` numbers, its result stands in `res` dimensions, has
+// `needed` numbers and goes to `room`.
+pub fn refusal_of(
+    dims: u8,
+    res: u8,
+    count: usize,
+    room: usize,
+    needed: usize,
+) -> Result<(), Refusal>
+    ensures { IsAnswer (refusal (result_tests dims res count room needed)) tt result }
 {
     if MAX_DIMS < dims {
-        return TOO_MANY_DIMS;
+        return Err(Refusal::TooManyDims);
     }
     if MAX_DIMS < res {
-        return TOO_MANY_DIMS;
+        return Err(Refusal::TooManyDims);
     }
     if count != blades(dims) {
-        return WRONG_COUNT;
+        return Err(Refusal::WrongCount);
     }
     if room < needed {
-        return NO_ROOM;
+        return Err(Refusal::NoRoom);
     }
-    DONE
+    Ok(())
 }
 
 // The same where there is a value and no output.
-pub fn value_refusal(dims: u8, count: usize) -> u8
-    ensures { result ≡ refusal (value_tests dims count) }
+pub fn value_refusal(dims: u8, count: usize) -> Result<(), Refusal>
+    ensures { IsAnswer (refusal (value_tests dims count)) tt result }
 {
     if dims > MAX_DIMS {
-        return TOO_MANY_DIMS;
+        return Err(Refusal::TooManyDims);
     }
     if blades(dims) != count {
-        return WRONG_COUNT;
+        return Err(Refusal::WrongCount);
     }
-    DONE
+    Ok(())
 }
 
 // The same for two values: the result stands in `res` dimensions and goes to `room`.
@@ -137,26 +89,26 @@ pub fn pair_refusal(
     count: usize,
     count_right: usize,
     room: usize,
-) -> u8
-    ensures { result ≡ refusal (pair_tests dims other res count count_right room) }
+) -> Result<(), Refusal>
+    ensures { IsAnswer (refusal (pair_tests dims other res count count_right room)) tt result }
 {
     if MAX_DIMS < dims {
-        return TOO_MANY_DIMS;
+        return Err(Refusal::TooManyDims);
     }
     if MAX_DIMS < other {
-        return TOO_MANY_DIMS;
+        return Err(Refusal::TooManyDims);
     }
     if MAX_DIMS < res {
-        return TOO_MANY_DIMS;
+        return Err(Refusal::TooManyDims);
     }
     if count != blades(dims) {
-        return WRONG_COUNT;
+        return Err(Refusal::WrongCount);
     }
     if count_right != blades(other) {
-        return WRONG_COUNT;
+        return Err(Refusal::WrongCount);
     }
     if room < blades(res) {
-        return NO_ROOM;
+        return Err(Refusal::NoRoom);
     }
-    DONE
+    Ok(())
 }

@@ -3,12 +3,15 @@ use crate::table::Table;
 use crate::tree::Tree;
 
 /// The sources with constants that the face has as well.
-const CONSTANTS: [&str; 4] = [
-    "crates/masks/src/outcome.rt",
+const CONSTANTS: [&str; 5] = [
+    REFUSALS,
     "crates/sheets/src/shapes.rt",
     "crates/replay/src/log.rt",
     "crates/replay/src/replay.rt",
+    "crates/exports/src/reports.rt",
 ];
+/// The source that has the refusals.
+const REFUSALS: &str = "crates/masks/src/outcome.rt";
 const VERSION: &str = "crates/exports/src/version.rt";
 const KINDS: &str = "crates/masks/src/shape_bytes.rt";
 const ERRORS: &str = "rust/src/error.rs";
@@ -27,6 +30,15 @@ pub fn constants(table: &Table, tree: &Tree) -> Vec<String> {
             faults.push(format!("{path} is not there"));
             continue;
         };
+        for (variant, value) in variants(text) {
+            match table.refusals.iter().find(|refusal| refusal.variant == variant) {
+                None => faults.push(format!("{variant} of {path} is not in calls.txt")),
+                Some(refusal) if u64::from(refusal.number) != value => {
+                    faults.push(format!("{} is {} in calls.txt and {value} in {path}", refusal.name, refusal.number));
+                }
+                Some(refusal) => found.push(refusal.name.as_str()),
+            }
+        }
         for (name, value) in declared(text) {
             match stated.iter().find(|(known, _)| *known == name) {
                 None => faults.push(format!("{name} of {path} is not in calls.txt")),
@@ -45,9 +57,21 @@ pub fn constants(table: &Table, tree: &Tree) -> Vec<String> {
 /// The constants that a source declares.
 fn declared(text: &str) -> Vec<(&str, u64)> {
     let lines = text.lines().filter_map(|line| {
-        let (name, rest) = line.strip_prefix("pub const ")?.split_once(": ")?;
+        let stated = line.strip_prefix("pub const ").or_else(|| line.strip_prefix("pub(crate) const "))?;
+        let (name, rest) = stated.split_once(": ")?;
         let (_, value) = rest.split_once(" = ")?;
         Some((name, value.split(';').next()?.replace('_', "").parse().ok()?))
+    });
+    lines.collect()
+}
+
+/// The refusals that a source declares, with their numbers.
+fn variants(text: &str) -> Vec<(&str, u64)> {
+    let (_, after) = text.split_once("pub enum Refusal {").unwrap_or_default();
+    let (inside, _) = after.split_once('}').unwrap_or_default();
+    let lines = inside.lines().filter_map(|line| {
+        let (name, value) = line.trim().strip_suffix(',')?.split_once(" = ")?;
+        Some((name, value.parse().ok()?))
     });
     lines.collect()
 }

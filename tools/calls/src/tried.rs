@@ -32,7 +32,7 @@ const TABLES: [Wrong; 14] = [
     wrong("a constant missing", "constant MAX_DIMS 9", "constant MOST_DIMS 9", "MAX_DIMS"),
     wrong("a kind of another value", "PROJECTIVE 1", "PROJECTIVE 3", "PROJECTIVE is 3"),
     wrong("another version", "version 0.2.0", "version 0.2.1", "the version"),
-    wrong("another name of a refusal", "8 NO_SPEC,", "8 NO_SPECS,", "NO_SPEC"),
+    wrong("another name of a refusal", "8 NO_SPEC, NoSpec:", "8 NO_SPEC, NoSpecs:", "NoSpec"),
     wrong("another sentence of a refusal", "or it is damaged", "or it is broken", "refusal 9"),
 ];
 
@@ -62,7 +62,7 @@ const SOURCES: [Wrong; 6] = [
     },
     Wrong {
         path: "crates/masks/src/outcome.rt",
-        ..wrong("a source with another number", "NO_SPEC: u8 = 8", "NO_SPEC: u8 = 7", "NO_SPEC")
+        ..wrong("a source with another number", "NoSpec = 8", "NoSpec = 7", "NO_SPEC")
     },
     Wrong {
         path: "crates/masks/src/shape_bytes.rt",

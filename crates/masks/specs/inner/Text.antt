@@ -5,8 +5,7 @@ use Rattle.masks.specs.declared.text.ByteTest.{ByteTest}
 use Rattle.masks.specs.declared.text.ByteTest.TheVariants.{Ascii, Blank, Separator, InPart}
 use Rattle.masks.specs.declared.text.Octet.{Octet}
 use Rattle.masks.specs.declared.text.Octet.TheVariants.{Is, Missing}
-use Rattle.masks.specs.declared.text.Read.{Read}
-use Rattle.masks.specs.Text.{blank, separator, same, part, in_part, after_part, octet, or_zero, read_as, refused_read, begins_cl, spec_in}
+use Rattle.masks.specs.Text.{blank, separator, same, part, in_part, after_part, octet, or_zero, Read, read_as, refused_read, begins_cl, spec_in}
 
 -- `passes_test test c` says whether the byte c passes the test.
 abbrev pub passes_test : ByteTest → ℕ → Bool

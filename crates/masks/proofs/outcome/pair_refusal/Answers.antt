@@ -1,4 +1,4 @@
-use mathlib.Core.Path.{◌≡◌, sym, ◌∙◌}
+use mathlib.Core.Path.{◌≡◌, refl, sym, ◌∙◌}
 use Prim.Native.Nat.{◌^◌, ◌≤◌, ◌<◌}
 use native.Mathlib.Omega.{arith}
 use borrow.Author.Tests.{eq-eqb, ne_eqb, lt-ltb, le-ltb}
@@ -54,4 +54,4 @@ returns c =
     let a = c.args in
     let r = c.if-res-gt-MAX_DIMS.false in
     let h : 2 ^ a.res ≤ a.room = omega (arith, c.blades-3.ensures) in
-    simp (le-ltb 9 _ c.if-dims-gt-MAX_DIMS.false, le-ltb 9 _ c.if-other-gt-MAX_DIMS.false, le-ltb 9 _ r, eq-eqb _ _ (left (goal.at.returns c).Else-count-blades), eq-eqb _ _ (right (goal.at.returns c).Else-count_right-blades), le-ltb _ _ h)
+    (simp (le-ltb 9 _ c.if-dims-gt-MAX_DIMS.false, le-ltb 9 _ c.if-other-gt-MAX_DIMS.false, le-ltb 9 _ r, eq-eqb _ _ (left (goal.at.returns c).Else-count-blades), eq-eqb _ _ (right (goal.at.returns c).Else-count_right-blades), le-ltb _ _ h), refl)

@@ -1,4 +1,4 @@
-use mathlib.Core.Path.{sym, ◌∙◌}
+use mathlib.Core.Path.{refl, sym, ◌∙◌}
 use borrow.Author.Tests.{eq-eqb, ne_eqb, lt-ltb, le-ltb}
 use Rattle.masks.specs.Outcome.{refusal}
 use Rattle.masks.proofs.outcome.refusal_of.Goals as goal
@@ -30,4 +30,4 @@ unfolding refusal
 returns c =
     let d = c.if-dims-gt-MAX_DIMS.false in
     let b = c.blades.ensures in
-    simp (le-ltb 9 _ d, le-ltb 9 _ c.if-res-gt-MAX_DIMS.false, eq-eqb _ _ (c.if-count-blades.false ∙ b), le-ltb _ _ c.if-room-needed.false)
+    (simp (le-ltb 9 _ d, le-ltb 9 _ c.if-res-gt-MAX_DIMS.false, eq-eqb _ _ (c.if-count-blades.false ∙ b), le-ltb _ _ c.if-room-needed.false), refl)

@@ -1,4 +1,4 @@
-use mathlib.Core.Path.{sym, ◌∙◌}
+use mathlib.Core.Path.{refl, sym, ◌∙◌}
 use borrow.Author.Tests.{eq-eqb, ne_eqb, lt-ltb, le-ltb}
 use Rattle.masks.specs.Outcome.{refusal}
 use Rattle.masks.proofs.outcome.value_refusal.Goals as goal
@@ -19,4 +19,4 @@ unfolding refusal
 returns c =
     let d = c.if-dims-gt-MAX_DIMS.false in
     let b = c.blades.ensures in
-    simp (le-ltb 9 _ d, eq-eqb _ _ (sym c.if-blades-count.false ∙ b))
+    (simp (le-ltb 9 _ d, eq-eqb _ _ (sym c.if-blades-count.false ∙ b)), refl)
