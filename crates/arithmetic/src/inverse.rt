@@ -10,7 +10,7 @@ ghost use Rattle.arithmetic.specs.Inverse.{square_of, less_scalar, by_square, na
 use super::kept::kept_refusal;
 use super::scalar::{ScalarTest, test_of};
 use super::scale::{negate, scale};
-use masks::outcome::{Answer, DONE, PLANAR, done, refused};
+use masks::outcome::Refusal;
 use masks::shape::Shape;
 use product::mode::Mode;
 use product::products::multiply;
@@ -28,7 +28,7 @@ pub(crate) fn put_square(given: &[u16], shape: Shape, x: &[f64], out: &mut [f64]
     requires dims_bound { (shape.dims ≤ 9) × (length x.now ≡ 2 ^ shape.dims) × (2 ^ shape.dims ≤ length out.old) }
     ensures { out.new ≡ laid (square_of shape x.now) out.old }
 {
-    multiply(given, Mode::All, shape, shape, x, x, out);
+    let _ = multiply(given, Mode::All, shape, shape, x, x, out);
 }
 
 // The scalar test of x squared, x being the value with -s added at place 0, s. The arrays for x and its square hold N numbers.
@@ -84,14 +84,12 @@ fn put_general(given: &[u16], shape: Shape, a: &[f64], out: &mut [f64])
     requires dims_bound { (shape.dims ≤ 9) × (length a.now ≡ 2 ^ shape.dims) × (2 ^ shape.dims ≤ length out.old) }
     ensures { out.new ≡ laid (general_inverse shape a.now) out.old }
 {
-    let test = test_square(given, shape, a);
-    match test {
+    match test_square(given, shape, a) {
         ScalarTest::Scalar(q) => {
             out[..a.len()].copy_from_slice(a);
             put_by_square(a.len(), q, out);
         }
-        ScalarTest::Planar(_) => put_nan(shape.dims, a.len(), out),
-        ScalarTest::Neither => put_nan(shape.dims, a.len(), out),
+        _ => put_nan(shape.dims, a.len(), out),
     }
 }
 
@@ -110,8 +108,7 @@ pub(crate) fn put_inverse(given: &[u16], shape: Shape, a: &[f64], out: &mut [f64
     requires dims_bound { (shape.dims ≤ 9) × (length a.now ≡ 2 ^ shape.dims) × (2 ^ shape.dims ≤ length out.old) }
     ensures { out.new ≡ laid (inverse_of shape a.now) out.old }
 {
-    let test = test_of(shape, a);
-    match test {
+    match test_of(shape, a) {
         ScalarTest::Scalar(f) => put_reciprocal(shape, f, a, out),
         ScalarTest::Planar(_) => {}
         ScalarTest::Neither => put_general(given, shape, a, out),
@@ -119,17 +116,13 @@ pub(crate) fn put_inverse(given: &[u16], shape: Shape, a: &[f64], out: &mut [f64
 }
 
 // The inverse of a value.
-pub fn inverted(shape: Shape, a: &[f64], out: &mut [f64]) -> Answer
+pub fn inverted(shape: Shape, a: &[f64], out: &mut [f64]) -> Result<Shape, Refusal>
     ensures { Gives (inverse shape a.now (length out.old)) result out.old out.new }
 {
-    let no = kept_refusal(shape, a, out.len());
-    if no != DONE {
-        return refused(no);
-    }
+    kept_refusal(shape, a, out.len())?;
     if was_planar(test_of(shape, a)) {
-        return refused(PLANAR);
+        return Err(Refusal::Planar);
     }
-    let none: [u16; 0] = [];
-    put_inverse(&none, shape, a, out);
-    done(shape)
+    put_inverse(&[], shape, a, out);
+    Ok(shape)
 }
