@@ -18,8 +18,8 @@ use Rattle.masks.specs.declared.flavor.Flavor.TheVariants.{Vanilla}
 use Rattle.masks.specs.declared.shape.Shape.{Shape}
 use Rattle.masks.specs.Outcome.{refusal, too_many, wrong_count, unless, shape_of, nought}
 use Rattle.masks.proofs.OutcomeLaws.{past, unless_done}
-use Rattle.arithmetic.specs.declared.outcome.Ordering.{Ordering}
-use Rattle.arithmetic.specs.declared.outcome.Ordering.TheVariants.{Less, Equal, Greater}
+use Rattle.std.specs.declared.cmp.Ordering.{Ordering}
+use Rattle.std.specs.declared.cmp.Ordering.TheVariants.{Less, Equal, Greater}
 use Rattle.arithmetic.specs.Scalar.{is_zero, all_zero, is_scalar, is_planar, test_of, if_scalar}
 use Rattle.arithmetic.specs.Compare.{compared_tests, answers_agree, same_number, same_places, refused_yes_no, equals, compared_nans, compared_numbers, or_else, compared_places, compared_counts, compared_lists, compared_by, compared}
 use Rattle.arithmetic.proofs.ScalarLaws.{and_both, if_scalar_lem, if_other}
@@ -268,9 +268,9 @@ scalar_some [] e = absurd (false≢true e)
 scalar_some (x ∷ a) e = omega arith
 
 -- Two values that are not refused have the numbers of their dimensions.
-pub both_counted : (s t : Shape) (a b : List Float) (n : ℕ) → n ≡ refusal (compared_tests s t a b) → n ≡ 0 → (length a ≡ 2 ^ s.dims) × (length b ≡ 2 ^ t.dims)
-both_counted s t a b n e z =
-    let p = past (too_many s.dims) _ (λ q. omega arith) (sym e ∙ z) in
+pub both_counted : (s t : Shape) (a b : List Float) → refusal (compared_tests s t a b) ≡ 0 → (length a ≡ 2 ^ s.dims) × (length b ≡ 2 ^ t.dims)
+both_counted s t a b z =
+    let p = past (too_many s.dims) _ (λ q. omega arith) z in
     let q = past (too_many t.dims) _ (λ q. omega arith) p.1 in
     let l = past (wrong_count (length a) s.dims) _ (λ q. omega arith) q.1 in
     let r = past (wrong_count (length b) t.dims) _ (λ q. omega arith) l.1 in
