@@ -1,5 +1,5 @@
 // `*`, `+` and `-` of two values.
-ghost use Rattle.std.specs.Prelude.{◌≡◌, ◌≤◌, length, take};
+ghost use Rattle.std.specs.Prelude.{◌≡◌, true, ◌≤◌, length, take};
 ghost use Rattle.masks.specs.Outcome.{IsAnswer, Gives, laid, refusal, pair_tests};
 ghost use Rattle.masks.specs.Shape.{conform_to, conform, meeting_dims};
 ghost use Rattle.product.specs.Products.{general_product};
@@ -12,7 +12,7 @@ ghost use Rattle.arithmetic.specs.Operators.Sum.{Plus, Minus};
 use super::scalar::{ScalarTest, is_scalar, test_of};
 use super::scale::scale;
 use masks::order::blades_or_none;
-use masks::outcome::{MAX_DIMS, Refusal, pair_refusal};
+use masks::outcome::{Refusal, pair_refusal};
 use masks::shape::{Shape, promotion};
 use product::mode::Mode;
 use product::products::multiply;
@@ -24,22 +24,15 @@ fn is_other(shape: Shape, b: &[f64]) -> bool
     b.len() == blades_or_none(shape.dims) && !is_scalar(b)
 }
 
-// The dimensions that two values meet in, the right one promoted only where `other` says so; 10, which is refused, where
-// given ones are above 9.
+// The dimensions that two values meet in, the right one promoted only where `other` says so.
 pub(crate) fn joined_dims(left: Shape, right: Shape, other: bool) -> u8
     ensures { left.dims ≤ 9 → right.dims ≤ 9 → result ≡ joined_dims left right other }
 {
-    if MAX_DIMS < left.dims {
-        return 10;
-    }
-    if MAX_DIMS < right.dims {
-        return 10;
-    }
     let own = left.flavor;
     let theirs = right.flavor;
-    let up = left.dims + promotion(own, theirs);
+    let up = left.dims.saturating_add(promotion(own, theirs));
     let up_right = if other {
-        right.dims + promotion(theirs, own)
+        right.dims.saturating_add(promotion(theirs, own))
     } else {
         right.dims
     };

@@ -14,7 +14,7 @@ use super::operators::mul_by;
 use super::scalar::test_of;
 use masks::build::scalar;
 use masks::order::{blades_or_none, put_order};
-use masks::outcome::{MAX_DIMS, Refusal, refusal_of};
+use masks::outcome::{Refusal, refusal_of};
 use masks::shape::Shape;
 
 // Whether the power is 1, 2, -1 or -2.
@@ -24,18 +24,14 @@ fn is_direct(power: i32) -> bool
     matches!(power.unsigned_abs(), 1 | 2)
 }
 
-// The dimensions of a power; 10, which is refused, where given ones are above 9.
+// The dimensions of a power.
 fn power_dims(shape: Shape, power: i32) -> u8
     ensures { shape.dims ≤ 9 → result ≡ power_dims shape (size_of power) }
 {
-    if MAX_DIMS < shape.dims {
-        return 10;
-    }
     if is_direct(power) {
         return shape.dims;
     }
-    let flavor = shape.flavor;
-    shape.dims + flavor.added_dims()
+    shape.dims.saturating_add(shape.flavor.added_dims())
 }
 
 // Whether a power is refused.
