@@ -1,23 +1,24 @@
 -- Calls on one value that keep its shape: a copy of the value, changed where it lies. Assumes nothing.
-use mathlib.Core.Path.{◌≡◌, refl, sym, ap, subst, ◌∙◌}
+use mathlib.Core.Path.{◌≡◌, refl, sym, ap, ap₂, subst, ◌∙◌}
 use mathlib.Core.Bool.{Bool, true, false, cond}
-use mathlib.Core.List.{List, [], ◌++◌, map}
+use mathlib.Core.List.{List, ◌++◌, map, append-nil}
 use Prim.Native.Nat.{ℕ, zero, suc, ◌+◌, ◌-◌, ◌^◌, ◌≤◌, ◌<◌}
-use native.Mathlib.Nat.{zero-add}
 use native.Mathlib.Omega.{arith}
 use borrow.Author.Tests.{le-ltb, eq-eqb}
 use lib.Ieee.{Float, nan, eq, mul, binary64}
-use lib.ListN.{length, get_or, set, take, drop, replicate, length-map, length-append, length-take, length-set, length-replicate, take-append-drop, get_or-append}
-use lib.Seq.{length-take-le, set-append_left}
+use lib.ListN.{length, get_or, set, take, drop, replicate, length-map, length-append, length-take, length-set, length-replicate, take-append-drop, get_or-append, drop_of_length-le}
+use lib.Seq.{length-take-le, set-append_left, take_all}
 use Rattle.std.specs.Prelude.{Result, Ok, Err}
+use Rattle.std.proofs.lemmas.List.{get_or_default}
+use Rattle.std.proofs.lemmas.List.Edits.{map_over_more}
 use Rattle.masks.specs.declared.shape.Shape.{Shape}
 use Rattle.masks.specs.declared.outcome.Refusal.{Refusal}
 use Rattle.masks.specs.Outcome.{Outcome, Gives, laid, refusal, too_many, number_of, unless, value, refused_value, nought, result_tests}
 use Rattle.masks.specs.Shape.{set_dims}
-use Rattle.masks.proofs.ListLaws.{take_laid, front, front_length, front_step, front_all}
+use Rattle.masks.proofs.ListLaws.{take_laid}
 use Rattle.masks.proofs.OutcomeLaws.{taken, later_same, refused_later, refuses, answer_one, unless_done, unless_err, unless_ok, unless_number, gives_refused, gives_done, not_refused}
-use Rattle.masks.proofs.ShapeLaws.{resized_same, part_length, part_at}
-use Rattle.product.proofs.ListLaws.{front_next, laid_over}
+use Rattle.masks.proofs.ShapeLaws.{resized_same}
+use Rattle.product.proofs.ListLaws.{laid_over}
 use Rattle.arithmetic.specs.declared.outcome.Taken.{Taken}
 use Rattle.arithmetic.specs.Kept.{kept_tests, kept, scalar_only, Halves, taken_of, GivesTaken}
 use Rattle.arithmetic.specs.Scale.{unity, scaled}
@@ -160,25 +161,18 @@ set_laid n out i x l h =
 pub same_laid : (n : ℕ) (out : List Float) → n ≤ length out → out ≡ laid (take n out) out
 same_laid n out h = sym (take-append-drop n out) ∙ ap (λ (m : ℕ). take n out ++ drop m out) (sym (length-take-le n out h))
 
--- The first n, each changed as f does.
-module _ (f : Float → Float) (n : ℕ) (out : List Float) (h : n ≤ length out) where
-  pub changed_length : length (map f (take n out)) ≡ n
-  changed_length = part_length f 0 n out (omega arith)
+-- The first n, each changed as f does, from the front: what is at i is as it was, and changed becomes the next one.
+pub changed_next : (f : Float → Float) (xs ys : List Float) (i : ℕ) → i < length xs → length ys ≡ length xs → ys ≡ map f (take i xs) ++ drop i xs → set ys i (f (get_or ys i nan)) ≡ map f (take (i + 1) xs) ++ drop (i + 1) xs
+changed_next f xs ys i h l e =
+    let within : i < length ys = omega (arith, l) in
+    map_over_more f xs ys i (get_or ys i nan) h e (get_or_default ys i nan (get_or ys i nan) within)
 
-  pub changed_room : (k : ℕ) → k ≤ n → length (front k (map f (take n out)) out) ≡ length out
-  changed_room k l = front_length k (map f (take n out)) out (omega (arith, changed_length)) (omega arith)
-
-  -- While k of them are changed, what is at k is as it was, and changed becomes the next one.
-  pub changed_step : (k : ℕ) (now : List Float) (y : Float) → k < n → now ≡ front k (map f (take n out)) out → y ≡ f (get_or now k nan) → set now k y ≡ front (k + 1) (map f (take n out)) out
-  changed_step k now y l e q =
-      let xs = map f (take n out) in
-      let here : get_or (front k xs out) k nan ≡ get_or out (0 + k) nan = front_next k xs out (omega (arith, changed_length)) ∙ ap (λ (m : ℕ). get_or out m nan) (sym (zero-add k)) in
-      let next : y ≡ get_or xs k nan =
-      q ∙ ap (λ (o : List Float). f (get_or o k nan)) e ∙ ap f here ∙ sym (part_at f 0 n out k nan nan l (omega arith)) in
-      rw e (front_step k xs nan out y next (omega (arith, changed_length)) (omega arith))
-
-  pub changed_all : (k : ℕ) → k ≡ n → front k (map f (take n out)) out ≡ laid (map f (take n out)) out
-  changed_all k e = front_all k (map f (take n out)) out (changed_length ∙ sym e)
+pub changed_all : (f : Float → Float) (n : ℕ) (out ys : List Float) (i : ℕ) → n ≤ length out → length (take n out) ≤ i → ys ≡ map f (take i (take n out)) ++ drop i (take n out) → ys ++ drop n out ≡ laid (map f (take n out)) out
+changed_all f n out ys i h l e =
+    let xs = take n out in
+    let w : ys ≡ map f xs = e ∙ ap₂ (λ (us vs : List Float). map f us ++ vs) (take_all i xs l) (drop_of_length-le xs l) ∙ append-nil (map f xs) in
+    let k : length (map f xs) ≡ n = length-map xs f ∙ length-take-le n out h in
+    ap₂ (λ (us : List Float) (m : ℕ). us ++ drop m out) w (sym k)
 
 -- ---- lengths
 

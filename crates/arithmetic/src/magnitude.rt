@@ -73,7 +73,7 @@ fn sum_squares(flavor: Flavor, dims: u8, masks: &[u16], a: &[f64]) -> f64
 
 // The same, where the order is made in an array of N masks.
 fn sum_in<const N: usize>(flavor: Flavor, dims: u8, a: &[f64]) -> f64
-    requires { (dims ≤ 9) × (2 ^ dims ≤ N) × (length a.now ≡ 2 ^ dims) }
+    requires { (dims ≤ 9) × (2 ^ dims ≤ N) × (N ≤ 512) × (length a.now ≡ 2 ^ dims) }
     ensures { result ≡ weighed_sum flavor dims a.now (2 ^ dims) }
 {
     let mut masks = [0; N];

@@ -3,6 +3,7 @@ ghost use Rattle.std.specs.Prelude.{◌≡◌, cond, ◌++◌, map, ◌+◌, ◌
 ghost use Rattle.std.specs.Float.Ieee.{neg};
 ghost use Rattle.masks.specs.Outcome.{Gives, laid};
 ghost use Rattle.product.specs.Reverse.{reversed};
+ghost use Rattle.arithmetic.specs.Kept.{kept};
 ghost use Rattle.arithmetic.specs.Reverse.{reverse, inv_reversed, inv_reverse};
 
 use super::scale::negate;
@@ -35,7 +36,7 @@ fn turn_grades(rest: bool, dims: u8, out: &mut [f64])
 
 // The inverse reverse where `rest` says so, else the reverse.
 fn turn(rest: bool, shape: Shape, a: &[f64], out: &mut [f64]) -> Result<Shape, Refusal>
-    ensures { Gives (cond rest (inv_reverse shape a.now (length out.old)) (reverse shape a.now (length out.old))) result out.old out.new }
+    ensures { Gives (kept (λ xs. cond rest (inv_reversed shape.dims xs) (reversed shape.dims xs)) shape a.now (length out.old)) result out.old out.new }
 {
     let kept = shape.set_dims(shape.dims, a, out)?;
     turn_grades(rest, shape.dims, out);

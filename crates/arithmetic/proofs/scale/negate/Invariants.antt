@@ -1,0 +1,8 @@
+use mathlib.Core.Path.{◌≡◌}
+use mathlib.Core.List.{◌++◌, map}
+use lib.Ieee.{neg}
+use lib.ListN.{take, drop}
+use Rattle.arithmetic.proofs.scale.negate.Given as goal
+
+abbrev pub invariant-loop-x : goal.invariant-loop-x
+invariant-loop-x l = l.x-items ≡ map neg (take l.x-index l.initial.x-items) ++ drop l.x-index l.initial.x-items
