@@ -16,7 +16,8 @@ use masks::order::put_order;
 use masks::outcome::{Refusal, value_refusal};
 use masks::shape::Shape;
 
-// The basis vectors that square to 0, and those that square to 0 or to -1, as masks.
+// The basis vectors that square to 0, and those that square to 0 or to -1, as masks. Those of product, which keep the two apart, are said by a
+// definition that no public contract cites (specs/inner).
 #[derive(Clone, Copy)]
 struct Squares {
     null: u16,
@@ -27,7 +28,7 @@ struct Squares {
 fn low_bits(k: u16) -> u16
     ensures { result ≡ 2 ^ min k 9 - 1 }
 {
-    if k < 9 { (1 << k) - 1 } else { 511 }
+    (1 << k.min(9)) - 1
 }
 
 // The squares of the nine basis vectors.
