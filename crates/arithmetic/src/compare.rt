@@ -53,17 +53,17 @@ fn equal_values(left: Shape, right: Shape, a: &[f64], b: &[f64]) -> bool
 
 // `==` of values of these dimensions: flavors play no part in it.
 fn eq_dims(dims: u8, other: u8, a: &[f64], b: &[f64]) -> Result<bool, Refusal>
-    ensures { let o = equals (shape_of dims Vanilla) (shape_of other Vanilla) a.now b.now in IsAnswer o.number o.yes result }
+    ensures { IsAnswer (equals (shape_of dims Vanilla) (shape_of other Vanilla) a.now b.now).number (equals (shape_of dims Vanilla) (shape_of other Vanilla) a.now b.now).yes result }
 {
-    let left = shape_of(dims, Flavor::Vanilla);
-    let right = shape_of(other, Flavor::Vanilla);
-    compare_refusal(left, right, a, b)?;
-    Ok(equal_values(left, right, a, b))
+    let plain = shape_of(dims, Flavor::Vanilla);
+    let plain_right = shape_of(other, Flavor::Vanilla);
+    compare_refusal(plain, plain_right, a, b)?;
+    Ok(equal_values(plain, plain_right, a, b))
 }
 
 // `==` as the reference has it: any two values that are not scalar are equal.
 pub fn eq(left: Shape, right: Shape, a: &[f64], b: &[f64]) -> Result<bool, Refusal>
-    ensures { let o = equals left right a.now b.now in IsAnswer o.number o.yes result }
+    ensures { IsAnswer (equals left right a.now b.now).number (equals left right a.now b.now).yes result }
 {
     eq_dims(left.dims, right.dims, a, b)
 }
@@ -173,7 +173,7 @@ fn compare_values(left: Shape, right: Shape, a: &[f64], b: &[f64]) -> Ordering
 
 // `cmp`: scalars by their numbers, NaN greatest; else by count, then by the first place that differs.
 pub fn cmp(left: Shape, right: Shape, a: &[f64], b: &[f64]) -> Result<Ordering, Refusal>
-    ensures { let o = compared left right a.now b.now in IsAnswer o.number o.order result }
+    ensures { IsAnswer (compared left right a.now b.now).number (compared left right a.now b.now).order result }
 {
     compare_refusal(left, right, a, b)?;
     Ok(compare_values(left, right, a, b))

@@ -16,7 +16,8 @@ use masks::order::put_order;
 use masks::outcome::{Refusal, value_refusal};
 use masks::shape::Shape;
 
-// The basis vectors that square to 0, and those that square to 0 or to -1, as masks.
+// The basis vectors that square to 0, and those that square to 0 or to -1, as masks. Those of product, which keep the two apart, are said by a
+// definition that no public contract cites (specs/inner).
 #[derive(Clone, Copy)]
 struct Squares {
     null: u16,
@@ -27,7 +28,7 @@ struct Squares {
 fn low_bits(k: u16) -> u16
     ensures { result ≡ 2 ^ min k 9 - 1 }
 {
-    if k < 9 { (1 << k) - 1 } else { 511 }
+    (1 << k.min(9)) - 1
 }
 
 // The squares of the nine basis vectors.
@@ -83,7 +84,7 @@ fn sum_in<const N: usize>(flavor: Flavor, dims: u8, a: &[f64]) -> f64
 
 // The squared magnitude of a value.
 pub fn squared_magnitude(shape: Shape, a: &[f64]) -> Result<f64, Refusal>
-    ensures { let o = squared_magnitude shape a.now in IsAnswer o.number o.value result }
+    ensures { IsAnswer (squared_magnitude shape a.now).number (squared_magnitude shape a.now).value result }
 {
     value_refusal(shape.dims, a.len())?;
     let flavor = shape.flavor;

@@ -117,7 +117,7 @@ pub(crate) fn test_of(shape: Shape, a: &[f64]) -> ScalarTest
 
 // The scalar test of a value; as `test_of` does it, which is not called, so that its answer is not copied.
 pub fn scalar_test(shape: Shape, a: &[f64]) -> Result<ScalarTest, Refusal>
-    ensures { let o = scalar_test shape a.now in IsAnswer o.number o.test result }
+    ensures { IsAnswer (scalar_test shape a.now).number (scalar_test shape a.now).test result }
 {
     value_refusal(shape.dims, a.len())?;
     if is_scalar(a) {

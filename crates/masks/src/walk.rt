@@ -37,8 +37,7 @@ pub(crate) fn grow(dims: u8, n: u8, a: &[f64], out: &mut [f64])
     let mut x: u32 = 0;
     let mut i: usize = 0;
     let mut end = blades(dims);
-    let mut k: usize = 0;
-    while 2 * k < last {
+    for k in 0..blades(n) / 2 {
         if x % low == 0 {
             out[k] = a[i];
             i += 1;
@@ -53,7 +52,6 @@ pub(crate) fn grow(dims: u8, n: u8, a: &[f64], out: &mut [f64])
             out[back] = 0.0;
         }
         x = next_backwards(n, x);
-        k += 1;
     }
 }
 
@@ -67,8 +65,7 @@ pub(crate) fn shrink(n: u8, dims: u8, a: &[f64], out: &mut [f64])
     let mut x: u32 = 0;
     let mut at: usize = 0;
     let mut end = blades(dims);
-    let mut k: usize = 0;
-    while 2 * k < last {
+    for k in 0..blades(n) / 2 {
         if x % low == 0 {
             out[at] = a[k];
             at += 1;
@@ -79,6 +76,5 @@ pub(crate) fn shrink(n: u8, dims: u8, a: &[f64], out: &mut [f64])
             out[end] = a[back];
         }
         x = next_backwards(n, x);
-        k += 1;
     }
 }

@@ -1,6 +1,6 @@
-use mathlib.Core.Path.{◌≡◌, refl, sym, ap, ◌∙◌}
+use mathlib.Core.Path.{◌≡◌, sym, ap, ◌∙◌}
 use mathlib.Core.List.{List}
-use Prim.Native.Nat.{ℕ, ◌+◌, ◌-◌, ◌*◌, ◌/◌}
+use Prim.Native.Nat.{ℕ, ◌+◌, ◌-◌, ◌*◌}
 use native.Mathlib.Omega.{arith}
 use lib.Ieee.{Float}
 use lib.ListN.{length, take, drop, length-drop}
@@ -13,12 +13,6 @@ use Rattle.arithmetic.proofs.compare.compare_by_fours.Goals as goal
 rest : (xs : List Float) (i : ℕ) → take (length xs - i) (drop i xs) ≡ drop i xs
 rest xs i = take_all _ (drop i xs) (omega (arith, length-drop i xs))
 
-pub loop-k-init : goal.loop-k-init
-loop-k-init c = refl
-
-pub returns-then-not-four_equal : goal.returns-then-not-four_equal
-returns-then-not-four_equal c = c.compare_from.ensures ∙ sym c.loop-k.invariant
-
 pub loop-k-preserved : goal.loop-k-preserved
 loop-k-preserved c =
     let a = c.args.a.now in
@@ -28,10 +22,3 @@ loop-k-preserved c =
     c.loop-k.invariant
     ∙ four_passed a b _ _ i (omega arith) c.requires (rest a i) (rest b i) (sym c.four_equal.ensures ∙ c.if-not-four_equal.false)
     ∙ ap (λ (n : ℕ). compared_places (drop n a) (drop n b)) e
-
-pub returns : goal.returns
-returns c =
-    let a = c.args.a.now in
-    let b = c.args.b.now in
-    let e : 4 * c.loop-k.k ≡ 4 * (length a / 4) = omega arith in
-    c.compare_from-2.ensures ∙ sym (c.loop-k.invariant ∙ ap (λ (n : ℕ). compared_places (drop n a) (drop n b)) e)

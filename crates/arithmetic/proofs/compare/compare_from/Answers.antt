@@ -23,9 +23,6 @@ decided Less p h = refl
 decided Equal p h = absurd (h refl)
 decided Greater p h = refl
 
-pub loop-i-init : goal.loop-i-init
-loop-i-init c = refl
-
 pub returns-in_default : goal.returns-in_default
 returns-in_default c = sym (next (goal.at.returns-in_default c).After-compare_numbers _ refl ∙ decided c.compare_numbers.result _ c.in_default.not-Equal)
 

@@ -10,8 +10,8 @@ use Rattle.arithmetic.specs.Compare.{YesNo, compared_tests, answers_agree, same_
 use Rattle.arithmetic.proofs.compare.eq_dims.Goals.{After-compare_refusal}
 use Rattle.arithmetic.proofs.compare.eq_dims.Goals as goal
 
-number : (c : After-compare_refusal) → let s = c.args in refusal (compared_tests (shape_of s.dims Vanilla) (shape_of s.other Vanilla) s.a.now s.b.now) ≡ refusal (compared_tests c.shape_of-left.result c.shape_of-right.result s.a.now s.b.now)
-number c = let s = c.args in sym (ap₂ (λ (p q : Shape). refusal (compared_tests p q s.a.now s.b.now)) c.shape_of-left.ensures c.shape_of-right.ensures)
+number : (c : After-compare_refusal) → let s = c.args in refusal (compared_tests (shape_of s.dims Vanilla) (shape_of s.other Vanilla) s.a.now s.b.now) ≡ refusal (compared_tests c.shape_of-plain.result c.shape_of-plain_right.result s.a.now s.b.now)
+number c = let s = c.args in sym (ap₂ (λ (p q : Shape). refusal (compared_tests p q s.a.now s.b.now)) c.shape_of-plain.ensures c.shape_of-plain_right.ensures)
 
 pub returns-in_err-compare_refusal : goal.returns-in_err-compare_refusal
 unfolding equals
@@ -25,4 +25,4 @@ unfolding equals
 returns c =
     let s = c.args in
     answered_ok (λ (o : YesNo). o.number) (λ o. o.yes) refused_yes_no _ _ _ refl (number (goal.at.returns c).After-compare_refusal ∙ c.in_ok-compare_refusal.ensures.0)
-    (c.equal_values.ensures ∙ ap₂ (λ (p q : Shape). answers_agree (test_of p s.a.now) (test_of q s.b.now) || same_places s.a.now s.b.now) c.shape_of-left.ensures c.shape_of-right.ensures)
+    (c.equal_values.ensures ∙ ap₂ (λ (p q : Shape). answers_agree (test_of p s.a.now) (test_of q s.b.now) || same_places s.a.now s.b.now) c.shape_of-plain.ensures c.shape_of-plain_right.ensures)

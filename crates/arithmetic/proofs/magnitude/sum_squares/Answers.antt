@@ -41,8 +41,3 @@ unfolding weighed_sum weighed
 loop-i-preserved c =
     let x = get_or c.args.a.now (i c) nan in
     rw (add-one (i c)) (ap₂ (λ (y w : Float). add binary64 y (mul binary64 (mul binary64 w x) x)) c.loop-i.invariant (weighs c))
-
-pub returns : goal.returns
-returns c =
-    let e : c.loop-i.i ≡ 2 ^ c.args.dims = omega (arith, c.requires.1) in
-    c.loop-i.invariant ∙ ap (weighed_sum c.args.flavor c.args.dims c.args.a.now) e

@@ -1,15 +1,8 @@
-use mathlib.Core.Path.{refl}
 use native.Mathlib.Omega.{arith}
 use lib.Ieee.{neg}
 use lib.ListN.{take}
-use Rattle.arithmetic.proofs.KeptLaws.{changed_next, changed_all}
+use Rattle.arithmetic.proofs.KeptLaws.{changed_next}
 use Rattle.arithmetic.proofs.scale.negate.Goals as goal
-
-pub loop-x-init : goal.loop-x-init
-loop-x-init c = refl
 
 pub loop-x-preserved : goal.loop-x-preserved
 loop-x-preserved c = let l = c.loop-x in changed_next neg (take c.args.n c.args.out.now) l.x-items l.x-index (omega arith) l.auto.x-items l.invariant
-
-pub returns : goal.returns
-returns c = let l = c.loop-x in changed_all neg c.args.n c.args.out.now l.x-items l.x-index c.requires (omega arith) l.invariant

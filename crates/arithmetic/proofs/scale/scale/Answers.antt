@@ -1,4 +1,3 @@
-use mathlib.Core.Path.{refl}
 use native.Mathlib.Omega.{arith}
 use lib.Ieee.{Float, binary64, mul, of_bits, of_fields}
 use lib.ListN.{take}
@@ -12,9 +11,6 @@ times f x = mul binary64 x f
 pub returns-then-f : goal.returns-then-f
 unfolding scaled of_bits of_fields
 returns-then-f c = let s = c.args in rw c.if-f.true (same_laid s.n s.out.now (omega arith))
-
-pub loop-x-init : goal.loop-x-init
-loop-x-init c = refl
 
 pub loop-x-preserved : goal.loop-x-preserved
 loop-x-preserved c =

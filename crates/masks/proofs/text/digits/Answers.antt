@@ -1,33 +1,42 @@
-use mathlib.Core.Path.{refl, sym}
-use native.Mathlib.Omega.{arith}
-use Rattle.masks.proofs.TextLaws.{digit_below, digit_above, digit_in, octet_empty, digits_word, digits_large, digits_on, digits_end}
+use Rattle.std.proofs.Common.{rules, ◌≡◌, [], ◌∷◌, reverse, ◌+◌, ◌-◌, ◌≤◌, leb, length, take, drop, ℕ, ◌*◌, ◌<◌, ◌/◌, ◌%◌, Bool, true, false, nat_eq, nat_lt, List, ◌++◌, slice_index_or, slice_set, bit_and, bit_or, Fits, w8, w32, w64, Bor, MutBor}
+use Rattle.std.proofs.lemmas.List.Edits.{sets}
+use Rattle.masks.specs.Outcome.{Writes, laid}
+use Rattle.masks.specs.Text.{blank, separator, take_while, drop_while, every, same, trimmed, part, after_part, octet_of, octet, or_zero, read_flavor, decimal, text_of, write_flavor, refused_read, read_as}
+use Rattle.masks.specs.inner.Text.{spec_of, read_cl}
 use Rattle.masks.proofs.text.digits.Goals as goal
 
-pub returns-then-t-eq0 : goal.returns-then-t-eq0
-returns-then-t-eq0 c = sym (octet_empty c.args.t.now c.if-t-eq0.true)
+-- src/text.rt:111:9
+pub returns-then-is_empty : goal.returns-then-is_empty
+returns-then-is_empty c = ?
 
-pub loop-i-init : goal.loop-i-init
-loop-i-init c = record { within = omega arith; small = omega arith; digital = refl; valued = refl }
+-- src/text.rt:114:5
+pub loop-c-init : goal.loop-c-init
+loop-c-init c = ?
 
-pub returns-then-c-lt48 : goal.returns-then-c-lt48
-returns-then-c-lt48 c =
-    sym
-    (digits_word c.args.t.now c.loop-i.v c.loop-i.i c.loop-i.invariant (omega arith) (digit_below _ c.if-c-lt48.true))
+-- src/text.rt:116:13
+pub returns-then-not-is_ascii_digit : goal.returns-then-not-is_ascii_digit
+returns-then-not-is_ascii_digit c = ?
 
-pub returns-then-c-gt57 : goal.returns-then-c-gt57
-returns-then-c-gt57 c =
-    sym
-    (digits_word c.args.t.now c.loop-i.v c.loop-i.i c.loop-i.invariant (omega arith) (digit_above _ c.if-c-gt57.true))
+-- src/text.rt:118:13
+pub overflow_mul-v : goal.overflow_mul-v
+overflow_mul-v c = ?
 
+-- src/text.rt:118:13
+pub overflow_add-v : goal.overflow_add-v
+overflow_add-v c = ?
+
+-- src/text.rt:120:13
 pub returns-then-v-gt255 : goal.returns-then-v-gt255
-returns-then-v-gt255 c =
-    sym
-    (digits_large c.args.t.now c.loop-i.v c.loop-i.i c.loop-i.invariant (omega arith) c.if-v-gt255.true)
+returns-then-v-gt255 c = ?
 
-pub loop-i-preserved : goal.loop-i-preserved
-loop-i-preserved c =
-    let d = digit_in _ c.if-c-lt48.false c.if-c-gt57.false in
-    digits_on c.args.t.now c.loop-i.v c.loop-i.i c.loop-i.invariant (omega arith) d c.if-v-gt255.false
+-- src/text.rt:114:5
+pub loop-c-preserved : goal.loop-c-preserved
+loop-c-preserved c = ?
 
+-- src/text.rt:123:10
+pub overflow_cast-result : goal.overflow_cast-result
+overflow_cast-result c = ?
+
+-- src/text.rt:107:1
 pub returns : goal.returns
-returns c = sym (digits_end c.args.t.now c.loop-i.v c.loop-i.i c.loop-i.invariant (omega arith) (omega arith))
+returns c = ?

@@ -1,7 +1,10 @@
-use Rattle.masks.specs.declared.text.ByteTest.TheVariants.{Ascii}
-use Rattle.masks.specs.inner.Text.{passes_test}
-use Rattle.masks.proofs.TextScan.{stopped_every}
+use Rattle.std.proofs.Common.{rules, ◌≡◌, [], ◌∷◌, reverse, ◌+◌, ◌-◌, ◌≤◌, leb, length, take, drop, ℕ, ◌*◌, ◌<◌, ◌/◌, ◌%◌, Bool, true, false, nat_eq, nat_lt, List, ◌++◌, slice_index_or, slice_set, bit_and, bit_or, Fits, w8, w32, w64, Bor, MutBor}
+use Rattle.std.proofs.lemmas.List.Edits.{sets}
+use Rattle.masks.specs.Outcome.{Writes, laid}
+use Rattle.masks.specs.Text.{blank, separator, take_while, drop_while, every, same, trimmed, part, after_part, octet_of, octet, or_zero, read_flavor, decimal, text_of, write_flavor, refused_read, read_as}
+use Rattle.masks.specs.inner.Text.{spec_of, read_cl}
 use Rattle.masks.proofs.text.is_ascii.Goals as goal
 
+-- src/text.rt:47:1
 pub returns : goal.returns
-returns c = stopped_every (passes_test Ascii) c.args.t.now c.skip.result c.skip.ensures.1 c.skip.ensures.2
+returns c = ?

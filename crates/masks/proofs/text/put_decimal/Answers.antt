@@ -1,33 +1,30 @@
-use mathlib.Core.Path.{refl, ap}
-use native.Mathlib.Numerals.{add-one, add-two}
-use native.Mathlib.Omega.{arith}
-use lib.ListN.{length, length-set}
-use Rattle.masks.proofs.TextLaws.{decimal_one, decimal_two, decimal_three}
+use Rattle.std.proofs.Common.{rules, ◌≡◌, [], ◌∷◌, reverse, ◌+◌, ◌-◌, ◌≤◌, leb, length, take, drop, ℕ, ◌*◌, ◌<◌, ◌/◌, ◌%◌, Bool, true, false, nat_eq, nat_lt, List, ◌++◌, slice_index_or, slice_set, bit_and, bit_or, Fits, w8, w32, w64, Bor, MutBor}
+use Rattle.std.proofs.lemmas.List.Edits.{sets}
+use Rattle.masks.specs.Outcome.{Writes, laid}
+use Rattle.masks.specs.Text.{blank, separator, take_while, drop_while, every, same, trimmed, part, after_part, octet_of, octet, or_zero, read_flavor, decimal, text_of, write_flavor, refused_read, read_as}
+use Rattle.masks.specs.inner.Text.{spec_of, read_cl}
 use Rattle.masks.proofs.text.put_decimal.Goals as goal
 
+-- src/text.rt:190:18
 pub bounds-out-at : goal.bounds-out-at
-bounds-out-at c = omega (arith, ap length (decimal_one c.args.n c.if-n-lt10.true))
+bounds-out-at c = ?
 
-pub returns-then-n-lt10 : goal.returns-then-n-lt10
-returns-then-n-lt10 c = rw (decimal_one c.args.n c.if-n-lt10.true) (refl, refl)
+-- src/text.rt:191:20
+pub copy_from_slice-requires : goal.copy_from_slice-requires
+copy_from_slice-requires c = ?
 
-pub bounds-out-at-then-n-lt100 : goal.bounds-out-at-then-n-lt100
-bounds-out-at-then-n-lt100 c = omega (arith, ap length (decimal_two c.args.n c.if-n-lt10.false c.if-n-lt100.true))
+-- src/text.rt:192:14
+pub copy_from_slice-requires-in_default : goal.copy_from_slice-requires-in_default
+copy_from_slice-requires-in_default c = ?
 
-pub bounds-out-at-then-n-lt100-2 : goal.bounds-out-at-then-n-lt100-2
-bounds-out-at-then-n-lt100-2 c = simp length-set (omega (arith, ap length (decimal_two c.args.n c.if-n-lt10.false c.if-n-lt100.true)))
+-- src/text.rt:182:1
+pub returns-in-0-to-9 : goal.returns-in-0-to-9
+returns-in-0-to-9 c = ?
 
-pub returns-then-n-lt100 : goal.returns-then-n-lt100
-returns-then-n-lt100 c = rw (decimal_two c.args.n c.if-n-lt10.false c.if-n-lt100.true, add-one) (refl, refl)
+-- src/text.rt:182:1
+pub returns-in-10-to-99 : goal.returns-in-10-to-99
+returns-in-10-to-99 c = ?
 
-pub bounds-out-at-2 : goal.bounds-out-at-2
-bounds-out-at-2 c = omega (arith, ap length (decimal_three c.args.n c.if-n-lt10.false c.if-n-lt100.false))
-
-pub bounds-out-at-3 : goal.bounds-out-at-3
-bounds-out-at-3 c = simp length-set (omega (arith, ap length (decimal_three c.args.n c.if-n-lt10.false c.if-n-lt100.false)))
-
-pub bounds-out-at-4 : goal.bounds-out-at-4
-bounds-out-at-4 c = simp length-set (omega (arith, ap length (decimal_three c.args.n c.if-n-lt10.false c.if-n-lt100.false)))
-
-pub returns : goal.returns
-returns c = rw (decimal_three c.args.n c.if-n-lt10.false c.if-n-lt100.false, add-one, add-two) (refl, refl)
+-- src/text.rt:182:1
+pub returns-in_default : goal.returns-in_default
+returns-in_default c = ?
