@@ -31,12 +31,6 @@ value_on : (t : List ℕ) (i v : ℕ) → i < length t → decimal_value v (drop
 unfolding decimal_value
 value_on t i v h = rw (drop-cons t i 0 h, add-one i)
 
-pub digit_below : (c : ℕ) → c < 48 → decimal_digit c ≡ false
-digit_below c h = rw (lt-leb 48 c h)
-
-pub digit_above : (c : ℕ) → 57 < c → decimal_digit c ≡ false
-digit_above c h = rw (lt-leb c 57 h) (and-false (leb 48 c))
-
 pub digit_in : (c : ℕ) → 48 ≤ c → c ≤ 57 → decimal_digit c ≡ true
 digit_in c h g = rw (le-leb 48 c h, le-leb c 57 g)
 

@@ -98,16 +98,6 @@ module _ (p : ℕ → Bool) (t : List ℕ) where
   unfolding every
   every_end i e = rw (drop_end t i e)
 
--- what is taken and what is dropped make up the whole
-take_drop : (p : ℕ → Bool) (l : List ℕ) → take_while p l ++ drop_while p l ≡ l
-unfolding take_while drop_while
-take_drop p [] = refl
-take_drop p (x ∷ xs) = go (p x) (take_drop p xs)
-  where
-    go : (b : Bool) → take_while p xs ++ drop_while p xs ≡ xs → cond b (x ∷ take_while p xs) [] ++ cond b (drop_while p xs) (x ∷ xs) ≡ x ∷ xs
-    go true e = ap (λ (l : List ℕ). x ∷ l) e
-    go false e = refl
-
 -- ---- the bytes at the front that pass a test
 
 module _ (p : ℕ → Bool) where
