@@ -56,6 +56,13 @@ either (Scalar x) f y P h g = h x
 either (Planar c) f y P h g = g
 either Neither f y P h g = g
 
+-- A test that does not answer scalar takes the other result.
+pub if_not_scalar : {A : Type 0} (t : ScalarTest) (f : Float → A) (y : A) → ((x : Float) → t ≡ Scalar x → ⊥) → if_scalar t f y ≡ y
+unfolding if_scalar
+if_not_scalar (Scalar x) f y h = absurd (h x refl)
+if_not_scalar (Planar c) f y h = refl
+if_not_scalar Neither f y h = refl
+
 module _ (s t : Shape) (a b : List Float) (room : ℕ) where
   -- What a call may rest on where an operator is not refused.
   pub operator_passed : refusal (operator_tests s t a b room) ≡ 0 → Passed s.dims t.dims (result_dims s t b) (length a) (length b) room

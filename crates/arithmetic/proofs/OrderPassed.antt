@@ -6,7 +6,7 @@ use native.Mathlib.Decide.{ℕ_discrete}
 use native.Mathlib.Nat.{mod-eq_of_lt}
 use native.Mathlib.Omega.{arith}
 use lib.Arith.{lt_of_le-ne}
-use lib.ListN.{length, get_or, take}
+use lib.ListN.{length, get_or, take, replicate, length-replicate}
 use lib.Pow.{pow_pos, pow-lt}
 use Rattle.std.specs.Prelude.{Result, IsOk}
 use Rattle.masks.specs.declared.flavor.Flavor.TheVariants.{Vanilla}
@@ -41,6 +41,10 @@ passed_order d n l i h =
           ∙ ap (λ (m : ℕ). get_or (order m) i 0) e
       | no w ↦ sym (given_few (order d) n i (omega (arith, length_order d, pow-lt (lt_of_le-ne l w))))
     ]
+
+-- There is room in an array of n items for n of them.
+pub array_room : {A : Type 0} {m n : ℕ} (x : A) → m ≤ n → m ≤ length (replicate n x)
+array_room {n = n} x h = omega (arith, length-replicate n x)
 
 -- What `put_order` has written, and the part that holds its masks.
 module _ {d : ℕ} {r : Result (Unit {0}) Refusal} {before after : List ℕ} (g : GivesOrder d r before after) (h : d ≤ 9) (l : 2 ^ d ≤ length before) where

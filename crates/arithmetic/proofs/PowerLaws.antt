@@ -9,7 +9,7 @@ use native.Mathlib.Omega.{arith}
 use borrow.Author.Tests.{eq-eqb, ne_eqb, eqb-true, eqb-false, le-leb, le-ltb, lt-ltb, ltb-true, ltb-false, not-false}
 use lib.Dec.{eqb}
 use lib.Ieee.{Float}
-use lib.IntN.{ℤ, pos, negsuc}
+use lib.IntN.{ℤ, pos, negsuc, nat_abs}
 use lib.ListN.{length, take, drop}
 use lib.Signed.{lt_z, le_z}
 use mir.Syntax.{w32}
@@ -40,6 +40,14 @@ below_zero_lem z f = rw (to_z-of_z w32 z f) (go z)
   where
     go : (y : ℤ) → lt_z y (pos 0) ≡ is_negative y
     go (pos n) = le-ltb n 0 (omega arith)
+    go (negsuc n) = refl
+
+-- The size of what is read back.
+pub size_read : (z : ℤ) → SFits w32 z → (n : ℕ) → n ≡ nat_abs (to_z w32 (of_z w32 z)) → n ≡ size_of z
+size_read z f n e = e ∙ ap nat_abs (to_z-of_z w32 z f) ∙ go z
+  where
+    go : (y : ℤ) → nat_abs y ≡ size_of y
+    go (pos n) = refl
     go (negsuc n) = refl
 
 pub from_zero : (z : ℤ) → SFits w32 z → (t : Bool) → le_z (pos 0) (to_z w32 (of_z w32 z)) ≡ t → is_negative z ≡ not t

@@ -21,7 +21,8 @@ use masks::shape::Shape;
 fn is_direct(power: i32) -> bool
     ensures { result ≡ is_direct (size_of power) }
 {
-    matches!(power.unsigned_abs(), 1 | 2)
+    let n = power.unsigned_abs();
+    n == 1 || n == 2
 }
 
 // The dimensions of a power.

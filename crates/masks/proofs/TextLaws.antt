@@ -11,8 +11,9 @@ use lib.Seq.{drop-cons, sets}
 use borrow.Author.Tests.{le-leb, lt-leb, lt-ltb, le-ltb, eq-eqb, ne_eqb}
 use Rattle.masks.specs.declared.flavor.Flavor.{Flavor}
 use Rattle.masks.specs.declared.flavor.Flavor.TheVariants.{Vanilla, Projective, Cl}
-use Rattle.std.specs.Prelude.{Option, None, Some}
-use Rattle.masks.specs.Outcome.{refusal, unless}
+use Rattle.std.specs.Prelude.{Option, None, Some, Ok, Err}
+use Rattle.masks.specs.declared.outcome.Refusal.{Refusal}
+use Rattle.masks.specs.Outcome.{refusal, number_of, IsAnswer, unless}
 use Rattle.masks.specs.inner.Text.{spec, spec_of, read_cl}
 use Rattle.masks.specs.Text.{decimal_digit, every, same, decimal_value, unsigned, octet_of, octet, is_octet, or_zero, part, after_part, read_as, refused_read, vga, pga, begins_cl, spec_in, is_spec, cl_of, Read, read_flavor, decimal, spaced, text_of}
 use Rattle.masks.proofs.ListLaws.{sets_append, same_eq}
@@ -130,6 +131,15 @@ module _ (t : List ℕ) where
       go None = refl
       go (Some p) = refl
 
+-- ---- what is answered
+
+-- a flavor that was read, and a refusal
+pub read_done : (o : Read) (f : Flavor) → o ≡ read_as f → IsAnswer o.number o.flavor (Ok f)
+read_done o f e = rw e (refl, refl)
+
+pub read_refused : (o : Read) (x : Refusal) → o ≡ refused_read (number_of x) → IsAnswer o.number o.flavor (Err x)
+read_refused o x e = rw e refl
+
 -- ---- a text, read step by step
 
 -- the code's steps
@@ -164,9 +174,6 @@ pub read_steps : (t : List ℕ) → read_flavor t ≡ read_text t
 unfolding read_flavor read_text read_cl refusal
 read_steps t =
     steps_tested (every (λ c. leb c 127) t) (same t vga) (same t pga) (begins_cl t) (is_spec (spec_in t)) (cl_of (spec_in t)) (spec_of (spec_in t)) (vga_not_cl t) (pga_not_cl t) (spec_tested (spec_in t))
-
-pub by_steps : (r : Read) (t : List ℕ) → r ≡ read_text t → r ≡ read_flavor t
-by_steps r t e = e ∙ sym (read_steps t)
 
 -- ---- what is written
 

@@ -14,12 +14,12 @@ fn dims_for(dims: u8, mask: usize) -> u8
     requires { dims ≤ 9 }
     ensures { result ≡ blade_dims (9 - dims) dims mask }
 {
-    for n in dims..MAX_DIMS {
-        if mask < blades(n) {
-            return n;
-        }
-    }
-    MAX_DIMS
+    let fits = (dims..MAX_DIMS).find(
+        |&n|
+            requires { n ≤ 9 }
+        { mask < blades(n) },
+    );
+    fits.unwrap_or(MAX_DIMS)
 }
 
 // Whether setting a blade is refused.
@@ -56,9 +56,8 @@ impl Shape {
     pub fn get_blade(self, mask: usize, a: &[f64]) -> Result<f64, Refusal>
         ensures { IsAnswer (get_blade self mask a.now).number (get_blade self mask a.now).value result }
     {
-        let dims = self.dims;
-        value_refusal(dims, a.len())?;
-        Ok(coefficient(dims, a, mask))
+        value_refusal(self.dims, a.len())?;
+        Ok(coefficient(self.dims, a, mask))
     }
 
     // The value with x at a mask: outside, it grows by one dimension and calls itself.

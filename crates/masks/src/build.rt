@@ -128,15 +128,11 @@ pub fn pseudoscalar(dims: u8, x: f64, flavor: Flavor, out: &mut [f64]) -> Result
 
 // The first grade of n numbers from `from` on and below `end`.
 fn first_grade(dims: u8, n: usize, from: u8, end: u8) -> Option<Packing>
-    requires { (dims ≤ 9) × (from ≤ end) × (end ≤ dims + 1) }
+    requires { dims ≤ 9 }
     ensures { result ≡ first_grade dims n (end - from) from }
 {
-    for g in from..end {
-        if size_of(dims, g) == n {
-            return Some(Packing::Grade(g));
-        }
-    }
-    None
+    let grade = (from..end).find(|g| size_of(dims, *g) == n);
+    grade.map(|g| Packing::Grade(g))
 }
 
 // How n numbers fill a value on the left, the side of the even grades, or on the right.
@@ -164,7 +160,7 @@ fn fill_half(parity: Parity, dims: u8, v: &[f64], out: &mut [f64])
 {
     let mut i = 0;
     let mut k = 0;
-    for g in 0..dims + 1 {
+    for g in 0..=dims {
         let count = size_of(dims, g);
         if parity.has(g) {
             copy_part(v, i, count, out, k);

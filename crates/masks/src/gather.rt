@@ -5,6 +5,8 @@ ghost use Rattle.masks.specs.Order.{order};
 ghost use Rattle.masks.specs.Outcome.{laid, nought};
 ghost use Rattle.masks.specs.Shape.{coef, negates, resized, promoted, conformed};
 
+use std::cmp::Ordering;
+
 use super::order::{blades, place_of, size_of};
 use super::walk::{grow, shrink};
 
@@ -49,15 +51,11 @@ pub(crate) fn read_all(dims: u8, d: u8, a: &[f64], out: &mut [f64])
     requires { (dims ≤ 9) × (d ≤ 9) × (length a.now ≡ 2 ^ dims) × (2 ^ d ≤ length out.old) }
     ensures { out.new ≡ laid (map (coef dims a.now) (order d)) out.old }
 {
-    if dims == d {
-        copy_all(a, out);
-        return;
+    match dims.cmp(&d) {
+        Ordering::Less => grow(dims, d, a, out),
+        Ordering::Equal => copy_all(a, out),
+        Ordering::Greater => shrink(dims, d, a, out),
     }
-    if dims < d {
-        grow(dims, d, a, out);
-        return;
-    }
-    shrink(dims, d, a, out);
 }
 
 // Whether a change of dimensions negates mask 101.

@@ -18,9 +18,10 @@ pub struct Shape {
 pub fn promotion(f: Flavor, g: Flavor) -> u8
     ensures { result ≡ promotes f g }
 {
-    match (f, g) {
-        (Flavor::Vanilla, Flavor::Projective) => 1,
-        _ => 0,
+    match f {
+        Flavor::Vanilla => g.added_dims(),
+        Flavor::Projective => 0,
+        Flavor::Cl(_, _, _) => 0,
     }
 }
 

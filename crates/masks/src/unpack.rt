@@ -29,7 +29,7 @@ fn take_half(parity: Parity, dims: u8, a: &[f64], out: &mut [f64])
 {
     let mut i = 0;
     let mut k = 0;
-    for g in 0..dims + 1 {
+    for g in 0..=dims {
         let count = size_of(dims, g);
         if parity.has(g) {
             copy_part(a, i, count, out, k);

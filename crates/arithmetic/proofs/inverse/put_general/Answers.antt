@@ -12,6 +12,7 @@ use Rattle.arithmetic.specs.Scalar.{test_of, if_scalar}
 use Rattle.arithmetic.specs.Inverse.{square_of, less_scalar, by_square, nanified, general_inverse}
 use Rattle.arithmetic.proofs.KeptLaws.{relaid, first_laid}
 use Rattle.arithmetic.proofs.InverseLaws.{less_scalar_length, by_square_length}
+use Rattle.arithmetic.proofs.OperatorsLaws.{if_not_scalar}
 use Rattle.arithmetic.proofs.inverse.put_general.Goals as goal
 
 -- A copy that is changed where it lies is the inverse by the square q.
@@ -23,27 +24,21 @@ by_copy a before mid after q some c e =
     ∙ ap (λ (x : Float). laid (by_square x (less_scalar a) q) before) first
 
 -- What the test of the square answers decides.
-general_by : (s : Shape) (a out : List Float) (t u : ScalarTest) → t ≡ test_of s (square_of s (less_scalar a)) → t ≡ u
+general_by : (s : Shape) (a out : List Float) (u : ScalarTest) → u ≡ test_of s (square_of s (less_scalar a))
     → laid (if_scalar u (by_square (get_or a 0 nan) (less_scalar a)) (nanified s.dims)) out ≡ laid (general_inverse s a) out
 unfolding general_inverse
-general_by s a out t u e g =
-    ap (λ (v : ScalarTest). laid (if_scalar v (by_square (get_or a 0 nan) (less_scalar a)) (nanified s.dims)) out) (sym g ∙ e)
+general_by s a out u e = ap (λ (v : ScalarTest). laid (if_scalar v (by_square (get_or a 0 nan) (less_scalar a)) (nanified s.dims)) out) e
 
 pub returns-in-Scalar : goal.returns-in-Scalar
 unfolding if_scalar
 returns-in-Scalar c =
     let a = c.args in
     by_copy a.a.now a.out.now (c.copy_from_slice.new.self ++ drop (length a.a.now) a.out.now) _ c.in-Scalar.q (omega (arith, c.requires.dims_bound.1, pow_pos a.shape.dims)) (ap (λ (xs : List Float). xs ++ drop (length a.a.now) a.out.now) c.copy_from_slice.ensures.after) c.put_by_square.ensures
-    ∙ general_by a.shape a.a.now a.out.now _ _ c.test_square-test.ensures c.in-Scalar.is
+    ∙ general_by a.shape a.a.now a.out.now _ c.in-Scalar.ensures
 
-pub returns-in-Planar : goal.returns-in-Planar
-unfolding if_scalar
-returns-in-Planar c =
+pub returns-in_default : goal.returns-in_default
+returns-in_default c =
     let a = c.args in
-    c.put_nan.ensures ∙ general_by a.shape a.a.now a.out.now _ _ c.test_square-test.ensures c.in-Planar.is
-
-pub returns-in-Neither : goal.returns-in-Neither
-unfolding if_scalar
-returns-in-Neither c =
-    let a = c.args in
-    c.put_nan-in-Neither.ensures ∙ general_by a.shape a.a.now a.out.now _ _ c.test_square-test.ensures c.in-Neither.is
+    c.put_nan.ensures
+    ∙ ap (λ (xs : List Float). laid xs a.out.now) (sym (if_not_scalar c.test_square.result (by_square (get_or a.a.now 0 nan) (less_scalar a.a.now)) _ c.in_default.not-Scalar))
+    ∙ general_by a.shape a.a.now a.out.now _ c.test_square.ensures

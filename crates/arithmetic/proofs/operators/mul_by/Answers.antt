@@ -1,4 +1,4 @@
-use mathlib.Core.Path.{◌≡◌, refl, sym, ◌∙◌}
+use mathlib.Core.Path.{◌≡◌, sym}
 use mathlib.Core.List.{List}
 use lib.Ieee.{Float}
 use lib.ListN.{length}
@@ -6,17 +6,16 @@ use Rattle.std.specs.Prelude.{Result}
 use Rattle.std.proofs.lemmas.Result.{err_from_is_err_and}
 use Rattle.masks.specs.declared.outcome.Refusal.{Refusal}
 use Rattle.masks.specs.declared.shape.Shape.{Shape}
-use Rattle.masks.specs.Outcome.{Outcome, Gives, refusal}
+use Rattle.masks.specs.Outcome.{Gives, refusal}
 use Rattle.masks.specs.Shape.{conform_to}
 use Rattle.masks.proofs.OutcomeLaws.{gives_refused}
 use Rattle.product.specs.Products.{general_product}
-use Rattle.arithmetic.specs.declared.scalar.Complex.{Complex}
 use Rattle.arithmetic.specs.declared.scalar.ScalarTest.{ScalarTest}
-use Rattle.arithmetic.specs.declared.scalar.ScalarTest.TheVariants.{Scalar, Planar, Neither}
+use Rattle.arithmetic.specs.declared.scalar.ScalarTest.TheVariants.{Scalar}
 use Rattle.arithmetic.specs.Scalar.{test_of, if_scalar}
 use Rattle.arithmetic.specs.Scale.{scaled}
 use Rattle.arithmetic.specs.Operators.{operator_tests, with_coefs, multiplication}
-use Rattle.arithmetic.proofs.OperatorsLaws.{operator_passed, by_test}
+use Rattle.arithmetic.proofs.OperatorsLaws.{if_not_scalar, operator_passed, by_test}
 use Rattle.arithmetic.proofs.operators.mul_by.Goals as goal
 
 -- What is done where it is not refused.
@@ -25,13 +24,6 @@ by : (s t : Shape) (a b before : List Float) → refusal (operator_tests s t a b
     → Gives (multiplication s t a b (length before)) r before after
 unfolding multiplication
 by s t a b before z T r after e g = rw (by_test s t a b (length before) T _ _ z (sym e)) g
-
--- A test that does not answer scalar takes the other way.
-other : (T : ScalarTest) (f : Float → Outcome) (o : Outcome) → ((x : Float) → T ≡ Scalar x → ⊥) → if_scalar T f o ≡ o
-unfolding if_scalar
-other (Scalar x) f o h = absurd (h x refl)
-other (Planar c) f o h = refl
-other Neither f o h = refl
 
 pub returns-in_err-operator_refusal : goal.returns-in_err-operator_refusal
 unfolding multiplication
@@ -51,4 +43,4 @@ returns-in-Scalar c = by _ _ _ _ _ c.in_ok-operator_refusal.ensures.0 (Scalar c.
 pub returns-in_default : goal.returns-in_default
 returns-in_default c =
     by _ _ _ _ _ c.in_ok-operator_refusal.ensures.0 c.test_of.result c.mul_other.result _ c.test_of.ensures
-    (rw (other c.test_of.result _ _ c.in_default.not-Scalar) c.mul_other.ensures)
+    (rw (if_not_scalar c.test_of.result _ _ c.in_default.not-Scalar) c.mul_other.ensures)

@@ -1,42 +1,28 @@
-use Rattle.std.proofs.Common.{rules, ◌≡◌, [], ◌∷◌, reverse, ◌+◌, ◌-◌, ◌≤◌, leb, length, take, drop, ℕ, ◌*◌, ◌<◌, ◌/◌, ◌%◌, Bool, true, false, nat_eq, nat_lt, List, ◌++◌, slice_index_or, slice_set, bit_and, bit_or, Fits, w8, w32, w64, Bor, MutBor}
-use Rattle.std.proofs.lemmas.List.Edits.{sets}
-use Rattle.masks.specs.Outcome.{Writes, laid}
-use Rattle.masks.specs.Text.{blank, separator, take_while, drop_while, every, same, trimmed, part, after_part, octet_of, octet, or_zero, read_flavor, decimal, text_of, write_flavor, refused_read, read_as}
-use Rattle.masks.specs.inner.Text.{spec_of, read_cl}
+use mathlib.Core.Path.{◌≡◌, refl, sym, ◌∙◌}
+use native.Mathlib.Omega.{arith}
+use borrow.Author.Tests.{eqb-true, eqb-false}
+use lib.ListN.{length}
+use Rattle.masks.proofs.TextLaws.{octet_empty, digits_word, digits_large, digits_on, digits_end}
 use Rattle.masks.proofs.text.digits.Goals as goal
 
--- src/text.rt:111:9
 pub returns-then-is_empty : goal.returns-then-is_empty
-returns-then-is_empty c = ?
+returns-then-is_empty c = sym (octet_empty c.args.t.now (eqb-true _ _ (sym c.is_empty.ensures ∙ c.if-is_empty.true)))
 
--- src/text.rt:114:5
 pub loop-c-init : goal.loop-c-init
-loop-c-init c = ?
+loop-c-init c = record { within = omega arith; small = omega arith; digital = refl; valued = refl }
 
--- src/text.rt:116:13
 pub returns-then-not-is_ascii_digit : goal.returns-then-not-is_ascii_digit
-returns-then-not-is_ascii_digit c = ?
+returns-then-not-is_ascii_digit c =
+    sym (digits_word c.args.t.now c.loop-c.v c.loop-c.c-index c.loop-c.invariant (omega arith) (sym c.is_ascii_digit.ensures.value ∙ c.if-not-is_ascii_digit.true))
 
--- src/text.rt:118:13
-pub overflow_mul-v : goal.overflow_mul-v
-overflow_mul-v c = ?
-
--- src/text.rt:118:13
-pub overflow_add-v : goal.overflow_add-v
-overflow_add-v c = ?
-
--- src/text.rt:120:13
 pub returns-then-v-gt255 : goal.returns-then-v-gt255
-returns-then-v-gt255 c = ?
+returns-then-v-gt255 c = sym (digits_large c.args.t.now c.loop-c.v c.loop-c.c-index c.loop-c.invariant (omega arith) c.if-v-gt255.true)
 
--- src/text.rt:114:5
 pub loop-c-preserved : goal.loop-c-preserved
-loop-c-preserved c = ?
+loop-c-preserved c =
+    digits_on c.args.t.now c.loop-c.v c.loop-c.c-index c.loop-c.invariant (omega arith) (sym c.is_ascii_digit.ensures.value ∙ c.if-not-is_ascii_digit.false) c.if-v-gt255.false
 
--- src/text.rt:123:10
-pub overflow_cast-result : goal.overflow_cast-result
-overflow_cast-result c = ?
-
--- src/text.rt:107:1
 pub returns : goal.returns
-returns c = ?
+returns c =
+    let f : length c.args.t.now ≡ 0 → ⊥ = eqb-false _ _ (sym c.is_empty.ensures ∙ c.if-is_empty.false) in
+    sym (digits_end c.args.t.now c.loop-c.v c.loop-c.c-index c.loop-c.invariant (omega arith) (omega arith))

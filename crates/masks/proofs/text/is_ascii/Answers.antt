@@ -1,10 +1,13 @@
-use Rattle.std.proofs.Common.{rules, ◌≡◌, [], ◌∷◌, reverse, ◌+◌, ◌-◌, ◌≤◌, leb, length, take, drop, ℕ, ◌*◌, ◌<◌, ◌/◌, ◌%◌, Bool, true, false, nat_eq, nat_lt, List, ◌++◌, slice_index_or, slice_set, bit_and, bit_or, Fits, w8, w32, w64, Bor, MutBor}
-use Rattle.std.proofs.lemmas.List.Edits.{sets}
-use Rattle.masks.specs.Outcome.{Writes, laid}
-use Rattle.masks.specs.Text.{blank, separator, take_while, drop_while, every, same, trimmed, part, after_part, octet_of, octet, or_zero, read_flavor, decimal, text_of, write_flavor, refused_read, read_as}
-use Rattle.masks.specs.inner.Text.{spec_of, read_cl}
+use mathlib.Core.Path.{◌∙◌}
+use borrow.Author.Tests.{tests}
+use lib.Dec.{leb}
+use Rattle.std.proofs.Common.{rules}
+use Rattle.std.proofs.lemmas.Iterator.{YieldsList-from_slice}
+use Rattle.std.proofs.lemmas.Iterator.Search.{all_from_yields_List}
+use Rattle.masks.proofs.TextScan.{every_all}
 use Rattle.masks.proofs.text.is_ascii.Goals as goal
 
--- src/text.rt:47:1
 pub returns : goal.returns
-returns c = ?
+returns c =
+    all_from_yields_List (λ x. leb x 127) _ _ _ c.all.ensures.ran (YieldsList-from_slice c.args.t.now cc) (λ x b q k. search (rules, tests))
+    ∙ every_all (λ x. leb x 127) c.args.t.now

@@ -1,40 +1,50 @@
-use Rattle.std.proofs.Common.{rules, ◌≡◌, [], ◌∷◌, reverse, ◌+◌, ◌-◌, ◌≤◌, leb, length, take, drop, ℕ, ◌*◌, ◌<◌, ◌/◌, ◌%◌, Bool, true, false, nat_eq, nat_lt, List, ◌++◌, slice_index_or, slice_set, bit_and, bit_or, Fits, w8, w32, w64, Bor, MutBor}
-use Rattle.std.proofs.lemmas.List.Edits.{sets}
-use Rattle.masks.specs.Outcome.{Writes, laid}
-use Rattle.masks.specs.Text.{blank, separator, take_while, drop_while, every, same, trimmed, part, after_part, octet_of, octet, or_zero, read_flavor, decimal, text_of, write_flavor, refused_read, read_as}
-use Rattle.masks.specs.inner.Text.{spec_of, read_cl}
+use mathlib.Core.Path.{◌≡◌, sym, ap, ◌∙◌}
+use mathlib.Core.List.{◌++◌}
+use Prim.Native.Nat.{◌≤◌}
+use native.Mathlib.Omega.{arith}
+use lib.ListN.{length, drop}
+use lib.Seq.{length-take-le}
+use Rattle.masks.specs.Text.{text_of}
+use Rattle.masks.proofs.text.put_text.Goals.{In-Vanilla, In-Projective}
 use Rattle.masks.proofs.text.put_text.Goals as goal
 
--- src/text.rt:252:28
+-- there is room for three bytes
+room_vanilla : (c : In-Vanilla) → 3 ≤ length c.args.out.now
+unfolding text_of
+room_vanilla c = rw c.in-Vanilla.is at c.requires
+
+room_projective : (c : In-Projective) → 3 ≤ length c.args.out.now
+unfolding text_of
+room_projective c = rw c.in-Projective.is at c.requires
+
 pub slice_bounds-copy_from_slice-end : goal.slice_bounds-copy_from_slice-end
-slice_bounds-copy_from_slice-end c = ?
+slice_bounds-copy_from_slice-end c = room_vanilla c
 
--- src/text.rt:252:28
 pub slice_bounds-copy_from_slice-end-in-Vanilla : goal.slice_bounds-copy_from_slice-end-in-Vanilla
-slice_bounds-copy_from_slice-end-in-Vanilla c = ?
+slice_bounds-copy_from_slice-end-in-Vanilla c = sym (length-take-le 3 _ (room_vanilla (goal.at.slice_bounds-copy_from_slice-end-in-Vanilla c).In-Vanilla))
 
--- src/text.rt:252:28
 pub copy_from_slice-requires : goal.copy_from_slice-requires
-copy_from_slice-requires c = ?
+copy_from_slice-requires c = length-take-le 3 _ (room_vanilla (goal.at.copy_from_slice-requires c).In-Vanilla)
 
--- src/text.rt:253:31
-pub slice_bounds-copy_from_slice-end-in-Projective :
-    goal.slice_bounds-copy_from_slice-end-in-Projective
-slice_bounds-copy_from_slice-end-in-Projective c = ?
+pub slice_bounds-copy_from_slice-end-in-Projective : goal.slice_bounds-copy_from_slice-end-in-Projective
+slice_bounds-copy_from_slice-end-in-Projective c = room_projective c
 
--- src/text.rt:253:31
-pub slice_bounds-copy_from_slice-end-in-Projective-2 :
-    goal.slice_bounds-copy_from_slice-end-in-Projective-2
-slice_bounds-copy_from_slice-end-in-Projective-2 c = ?
+pub slice_bounds-copy_from_slice-end-in-Projective-2 : goal.slice_bounds-copy_from_slice-end-in-Projective-2
+slice_bounds-copy_from_slice-end-in-Projective-2 c = sym (length-take-le 3 _ (room_projective (goal.at.slice_bounds-copy_from_slice-end-in-Projective-2 c).In-Projective))
 
--- src/text.rt:253:31
 pub copy_from_slice-requires-in-Projective : goal.copy_from_slice-requires-in-Projective
-copy_from_slice-requires-in-Projective c = ?
+copy_from_slice-requires-in-Projective c = length-take-le 3 _ (room_projective (goal.at.copy_from_slice-requires-in-Projective c).In-Projective)
 
--- src/text.rt:247:1
+pub put_cl-requires : goal.put_cl-requires
+put_cl-requires c = rw c.in-Cl.is at c.requires
+
 pub returns-in-Vanilla : goal.returns-in-Vanilla
-returns-in-Vanilla c = ?
+unfolding text_of
+returns-in-Vanilla c = rw c.in-Vanilla.is (ap (λ xs. xs ++ drop 3 c.args.out.now) c.copy_from_slice.ensures.after)
 
--- src/text.rt:247:1
 pub returns-in-Projective : goal.returns-in-Projective
-returns-in-Projective c = ?
+unfolding text_of
+returns-in-Projective c = rw c.in-Projective.is (ap (λ xs. xs ++ drop 3 c.args.out.now) c.copy_from_slice-in-Projective.ensures.after)
+
+pub returns-in-Cl : goal.returns-in-Cl
+returns-in-Cl c = rw c.in-Cl.is c.put_cl.ensures

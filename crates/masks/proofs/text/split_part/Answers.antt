@@ -1,14 +1,38 @@
-use Rattle.std.proofs.Common.{rules, ◌≡◌, [], ◌∷◌, reverse, ◌+◌, ◌-◌, ◌≤◌, leb, length, take, drop, ℕ, ◌*◌, ◌<◌, ◌/◌, ◌%◌, Bool, true, false, nat_eq, nat_lt, List, ◌++◌, slice_index_or, slice_set, bit_and, bit_or, Fits, w8, w32, w64, Bor, MutBor}
-use Rattle.std.proofs.lemmas.List.Edits.{sets}
-use Rattle.masks.specs.Outcome.{Writes, laid}
-use Rattle.masks.specs.Text.{blank, separator, take_while, drop_while, every, same, trimmed, part, after_part, octet_of, octet, or_zero, read_flavor, decimal, text_of, write_flavor, refused_read, read_as}
-use Rattle.masks.specs.inner.Text.{spec_of, read_cl}
+use mathlib.Core.Path.{◌≡◌, ap, ◌∙◌}
+use lib.ListN.{length, take, drop}
+use borrow.Author.Tests.{tests}
+use Rattle.std.proofs.Common.{rules}
+use Rattle.std.proofs.lemmas.Iterator.{YieldsList-from_slice}
+use Rattle.std.proofs.lemmas.Iterator.Search.{position_from_yields_List}
+use Rattle.std.specs.List.{position}
+use Rattle.std.specs.Option.{unwrap_or}
+use Rattle.masks.specs.Text.{separator, in_part, part, after_part}
+use Rattle.masks.proofs.TextScan.{position_found, take_front, drop_front}
+use Rattle.masks.proofs.text.split_part.Goals.{After-unwrap_or}
 use Rattle.masks.proofs.text.split_part.Goals as goal
 
--- src/text.rt:97:1
-pub returns-clause-part : goal.returns-clause-part
-returns-clause-part c = ?
+-- where the first part ends
+ends : (c : After-unwrap_or) → c.unwrap_or.result ≡ unwrap_or (position separator c.skip_separators-rest.result.now) (length c.skip_separators-rest.result.now)
+ends c =
+    let t = c.skip_separators-rest.result.now in
+    c.unwrap_or.ensures
+    ∙ ap (λ o. unwrap_or o (length t))
+    (position_from_yields_List separator _ _ c.position-end.result c.position-end.ensures.ran (YieldsList-from_slice t cc) (λ x b q k. search (rules, tests)))
 
--- src/text.rt:97:1
+pub returns-clause-part : goal.returns-clause-part
+unfolding part
+returns-clause-part c =
+    let t = c.skip_separators-rest.result.now in
+    c.split_at.ensures.front
+    ∙ ap (λ n. take n t) (ends (goal.at.returns-clause-part c).After-unwrap_or ∙ position_found separator t)
+    ∙ take_front in_part t
+    ∙ (rw c.skip_separators-rest.ensures)
+
 pub returns-clause-after : goal.returns-clause-after
-returns-clause-after c = ?
+unfolding after_part
+returns-clause-after c =
+    let t = c.skip_separators-rest.result.now in
+    c.split_at.ensures.back
+    ∙ ap (λ n. drop n t) (ends (goal.at.returns-clause-after c).After-unwrap_or ∙ position_found separator t)
+    ∙ drop_front in_part t
+    ∙ (rw c.skip_separators-rest.ensures)
