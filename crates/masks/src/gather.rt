@@ -1,14 +1,14 @@
 // Coefficients read by mask and by grade, and written from the front of an output: what changes of shape, building and unpacking share.
+// A value's dimensions and its numbers are passed apart, as every public call takes them: a struct of both would be made anew for each call.
 ghost use Rattle.std.specs.Prelude.{◌≡◌, map, ◌+◌, ◌^◌, ◌≤◌, ◌<◌, length, take, drop, replicate};
 ghost use Rattle.std.proofs.lemmas.List.Edits.{sets};
 ghost use Rattle.masks.specs.Order.{order};
 ghost use Rattle.masks.specs.Outcome.{laid, nought};
 ghost use Rattle.masks.specs.Shape.{coef, negates, resized, promoted, conformed};
 
-use std::cmp::Ordering;
-
 use super::order::{blades, place_of, size_of};
 use super::walk::{grow, shrink};
+use std::cmp::Ordering;
 
 // The coefficient of a mask: +0 for a mask outside.
 pub(crate) fn coefficient(dims: u8, a: &[f64], mask: usize) -> f64
