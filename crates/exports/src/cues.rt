@@ -3,7 +3,8 @@ ghost use Rattle.std.specs.Prelude.{[], ◌∷◌, length};
 ghost use Rattle.replay.specs.Replay.{replay};
 ghost use Rattle.exports.specs.Reports.{ReportsReplay};
 
-use super::reports::report_replay;
+use super::faces::replay_face;
+use super::reports::report_three;
 use replay::replay::replay;
 
 // The pose that a log leads to over the values of a sheet, how many steps were carried out, and the refusal of a step that it stopped at.
@@ -20,5 +21,5 @@ pub extern "C" fn thresholm_replay(
     ensures { ReportsReplay (replay form sheet.now log.now (length out.old)) result out.old out.new (to_shape.old, to_steps.old ∷ to_stopped.old ∷ []) (to_shape.new, to_steps.new ∷ to_stopped.new ∷ []) }
 {
     let answer = replay(form, sheet, log, out);
-    report_replay(answer, to_shape, to_steps, to_stopped)
+    report_three(answer, replay_face, to_shape, to_steps, to_stopped)
 }

@@ -6,10 +6,12 @@ ghost use Rattle.masks.specs.ShapeBytes.{shape_from};
 ghost use Rattle.masks.specs.Text.{read_flavor, write_flavor};
 ghost use Rattle.exports.specs.Reports.{ReportsFlavor, ReportsList};
 
+use super::faces::flavor_face;
 use super::numbers::{flavor_in, metric_number};
-use super::reports::{report_count, report_read};
+use super::reports::report;
 use masks::flavor::Flavor;
 use masks::shape::promotion;
+use std::convert::identity;
 
 // What the basis vector of an index squares to.
 #[unsafe(no_mangle)]
@@ -40,7 +42,7 @@ pub extern "C" fn thresholm_promotion(flavor: &[u8; 6], new_flavor: &[u8; 6]) ->
 pub extern "C" fn thresholm_try_from_str(t: &[u8], to_flavor: &mut [u8; 6]) -> u8
     ensures { ReportsFlavor (read_flavor t.now) result to_flavor.old to_flavor.new }
 {
-    report_read(Flavor::try_from_str(t), to_flavor)
+    report(Flavor::try_from_str(t), flavor_face, to_flavor)
 }
 
 // The text of a flavor, and how many bytes it has.
@@ -48,5 +50,5 @@ pub extern "C" fn thresholm_try_from_str(t: &[u8], to_flavor: &mut [u8; 6]) -> u
 pub extern "C" fn thresholm_write_to(flavor: &[u8; 6], out: &mut [u8], to_count: &mut usize) -> u8
     ensures { ReportsList (write_flavor (shape_from flavor.now).flavor (length out.old)) result out.old out.new to_count.old to_count.new }
 {
-    report_count(flavor_in(flavor).write_to(out), to_count)
+    report(flavor_in(flavor).write_to(out), identity, to_count)
 }

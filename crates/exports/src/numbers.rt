@@ -2,11 +2,11 @@
 ghost use Rattle.std.specs.Prelude.{◌≡◌};
 ghost use Rattle.masks.specs.Flavor.{metric_value};
 ghost use Rattle.masks.specs.ShapeBytes.{shape_from};
-ghost use Rattle.exports.specs.Numbers.{yes_number, order_number};
+ghost use Rattle.exports.specs.Numbers.{order_number};
 
-use arithmetic::outcome::Ordering;
 use masks::flavor::{Flavor, Metric};
 use masks::shape_bytes::shape_from;
+use std::cmp::Ordering;
 
 // The flavor of the shape that six bytes say: the dims are not looked at.
 pub(crate) fn flavor_in(bytes: &[u8; 6]) -> Flavor
@@ -29,15 +29,5 @@ pub(crate) fn metric_number(metric: Metric) -> i8
 pub(crate) fn order_number(order: Ordering) -> i8
     ensures { result ≡ order_number order }
 {
-    match order {
-        Ordering::Less => -1,
-        Ordering::Equal => 0,
-        Ordering::Greater => 1,
-    }
-}
-
-pub(crate) fn yes_number(yes: bool) -> u8
-    ensures { result ≡ yes_number yes }
-{
-    if yes { 1 } else { 0 }
+    order as i8
 }

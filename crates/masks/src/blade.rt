@@ -56,9 +56,8 @@ impl Shape {
     pub fn get_blade(self, mask: usize, a: &[f64]) -> Result<f64, Refusal>
         ensures { IsAnswer (get_blade self mask a.now).number (get_blade self mask a.now).value result }
     {
-        let dims = self.dims;
-        value_refusal(dims, a.len())?;
-        Ok(coefficient(dims, a, mask))
+        value_refusal(self.dims, a.len())?;
+        Ok(coefficient(self.dims, a, mask))
     }
 
     // The value with x at a mask: outside, it grows by one dimension and calls itself.

@@ -1,4 +1,5 @@
 // Coefficients read by mask and by grade, and written from the front of an output: what changes of shape, building and unpacking share.
+// A value's dimensions and its numbers are passed apart, as every public call takes them: a struct of both would be made anew for each call.
 ghost use Rattle.std.specs.Prelude.{◌≡◌, map, ◌+◌, ◌^◌, ◌≤◌, ◌<◌, length, take, drop, replicate};
 ghost use Rattle.std.proofs.lemmas.List.Edits.{sets};
 ghost use Rattle.masks.specs.Order.{order};
@@ -7,6 +8,7 @@ ghost use Rattle.masks.specs.Shape.{coef, negates, resized, promoted, conformed}
 
 use super::order::{blades, place_of, size_of};
 use super::walk::{grow, shrink};
+use std::cmp::Ordering;
 
 // The coefficient of a mask: +0 for a mask outside.
 pub(crate) fn coefficient(dims: u8, a: &[f64], mask: usize) -> f64
@@ -49,15 +51,11 @@ pub(crate) fn read_all(dims: u8, d: u8, a: &[f64], out: &mut [f64])
     requires { (dims ≤ 9) × (d ≤ 9) × (length a.now ≡ 2 ^ dims) × (2 ^ d ≤ length out.old) }
     ensures { out.new ≡ laid (map (coef dims a.now) (order d)) out.old }
 {
-    if dims == d {
-        copy_all(a, out);
-        return;
+    match dims.cmp(&d) {
+        Ordering::Less => grow(dims, d, a, out),
+        Ordering::Equal => copy_all(a, out),
+        Ordering::Greater => shrink(dims, d, a, out),
     }
-    if dims < d {
-        grow(dims, d, a, out);
-        return;
-    }
-    shrink(dims, d, a, out);
 }
 
 // Whether a change of dimensions negates mask 101.
