@@ -22,8 +22,8 @@ pub enum Packing {
 // The grades of a half set of blades.
 #[derive(Clone, Copy, PartialEq, Eq, Debug)]
 pub(crate) enum Parity {
-    Even,
-    Odd,
+    Even = 0,
+    Odd = 1,
 }
 
 impl Parity {
@@ -31,10 +31,7 @@ impl Parity {
     pub(crate) fn has(self, grade: u8) -> bool
         ensures { result ≡ eqb (grade % 2) (odd_of self) }
     {
-        match self {
-            Parity::Even => grade % 2 == 0,
-            Parity::Odd => grade % 2 == 1,
-        }
+        grade % 2 == self as u8
     }
 }
 
@@ -132,7 +129,7 @@ fn first_grade(dims: u8, n: usize, from: u8, end: u8) -> Option<Packing>
     ensures { result ≡ first_grade dims n (end - from) from }
 {
     let grade = (from..end).find(|g| size_of(dims, *g) == n);
-    grade.map(|g| Packing::Grade(g))
+    grade.map(Packing::Grade)
 }
 
 // How n numbers fill a value on the left, the side of the even grades, or on the right.

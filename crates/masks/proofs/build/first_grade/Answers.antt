@@ -1,5 +1,5 @@
 use mathlib.Core.Path.{◌≡◌, refl, ap, ◌∙◌}
-use Prim.Native.Nat.{ℕ, ◌-◌}
+use Prim.Native.Nat.{◌-◌}
 use borrow.Author.Tests.{tests}
 use lib.Dec.{eqb}
 use Rattle.std.proofs.Common.{rules}

@@ -1,8 +1,7 @@
-use mathlib.Core.Path.{◌≡◌, sym, ap, ◌∙◌}
+use mathlib.Core.Path.{◌≡◌, sym, ◌∙◌}
 use Prim.Native.Nat.{◌*◌, ◌^◌}
 use native.Mathlib.Omega.{arith}
-use Rattle.masks.specs.Build.{odd_of, packing}
-use Rattle.masks.proofs.OrderLaws.{blades_le}
+use Rattle.masks.specs.Build.{odd_of}
 use Rattle.masks.proofs.BuildLaws.{packing_full, packing_half, packing_even, packing_odd}
 use Rattle.masks.proofs.build.packing_of.Goals.{Joined-else-n-total-2, else-n-total-2-via-then-n-total-2+else-n-total-3, else-n-total-2-via-else-n-total-2}
 use Rattle.masks.proofs.build.packing_of.Goals as goal

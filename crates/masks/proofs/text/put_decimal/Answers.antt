@@ -3,7 +3,7 @@ use Prim.Native.Nat.{ℕ, ◌+◌, ◌-◌, ◌/◌, ◌%◌, ◌≤◌}
 use native.Mathlib.Omega.{arith}
 use mathlib.Core.List.{List}
 use lib.ListN.{length, take, drop, length-drop}
-use lib.Seq.{length-take-le, sets}
+use lib.Seq.{length-take-le}
 use Rattle.masks.specs.Text.{decimal}
 use Rattle.masks.proofs.ListLaws.{sets_part}
 use Rattle.masks.proofs.TextLaws.{decimal_one, decimal_two, decimal_three}

@@ -1,11 +1,10 @@
 use mathlib.Core.Path.{◌≡◌, sym, ap, ◌∙◌}
-use mathlib.Core.Bool.{true, false}
-use mathlib.Core.List.{List, [], ◌∷◌}
+use mathlib.Core.List.{List}
 use Prim.Native.Nat.{ℕ, ◌≤◌}
 use native.Mathlib.Omega.{arith}
-use lib.ListN.{length, get_or, take, drop}
+use lib.ListN.{length, get_or, drop}
 use Rattle.masks.specs.declared.outcome.Refusal.TheVariants.{NoFlavor}
-use Rattle.masks.specs.Text.{same, trimmed, refused_read}
+use Rattle.masks.specs.Text.{trimmed, refused_read}
 use Rattle.masks.specs.inner.Text.{spec_of, read_cl}
 use Rattle.masks.proofs.TextScan.{two_are, two_not, rest_all}
 use Rattle.masks.proofs.TextLaws.{read_refused}

@@ -1,13 +1,12 @@
-use mathlib.Core.Path.{◌≡◌, refl, sym, ap, ap₂, ◌∙◌}
+use mathlib.Core.Path.{◌≡◌, sym, ap, ap₂, ◌∙◌}
 use mathlib.Core.List.{List}
 use Prim.Native.Nat.{ℕ}
 use borrow.Author.Tests.{eqb-true, eqb-false}
 use lib.ListN.{length}
-use Rattle.std.specs.Prelude.{None, Some}
 use Rattle.std.proofs.lemmas.Result.{err_from_is_err_and}
 use Rattle.masks.specs.declared.flavor.Flavor.TheVariants.{Cl}
 use Rattle.masks.specs.declared.outcome.Refusal.TheVariants.{NoSpec}
-use Rattle.masks.specs.Text.{octet, or_zero, part, after_part, Read, read_as}
+use Rattle.masks.specs.Text.{octet, or_zero, part, after_part, read_as}
 use Rattle.masks.specs.inner.Text.{spec_of}
 use Rattle.masks.proofs.ListLaws.{missing_err}
 use Rattle.masks.proofs.TextLaws.{spec_missing, spec_four, spec_read, read_done, read_refused}

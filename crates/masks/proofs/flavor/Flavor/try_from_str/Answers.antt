@@ -1,12 +1,12 @@
-use mathlib.Core.Path.{◌≡◌, refl, sym, ap, ◌∙◌}
+use mathlib.Core.Path.{◌≡◌, refl, ◌∙◌}
 use mathlib.Core.Bool.{true, false}
-use mathlib.Core.List.{List, [], ◌∷◌}
+use mathlib.Core.List.{List}
 use Prim.Native.Nat.{ℕ}
 use native.Mathlib.Omega.{arith}
 use lib.ListN.{length, get_or}
 use Rattle.masks.specs.declared.flavor.Flavor.TheVariants.{Vanilla, Projective}
 use Rattle.masks.specs.declared.outcome.Refusal.TheVariants.{NoFlavor}
-use Rattle.masks.specs.Text.{same, vga, pga, read_as, refused_read, read_flavor}
+use Rattle.masks.specs.Text.{same, vga, pga, read_flavor}
 use Rattle.masks.specs.inner.Text.{read_cl}
 use Rattle.masks.proofs.TextScan.{three_are, three_not}
 use Rattle.masks.proofs.TextLaws.{read_text, read_steps, read_done, read_refused}
