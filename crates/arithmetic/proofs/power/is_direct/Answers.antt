@@ -15,8 +15,8 @@ module _ (n m : ℕ) (e : n ≡ m) where
   unfolding is_direct
   direct_two h = rw (← e, ne_eqb n 1 h)
 
-pub returns-then-n-eq1 : goal.returns-then-n-eq1
-returns-then-n-eq1 c = direct_one _ _ (size_read c.args.power c.ranges.power _ c.unsigned_abs-n.ensures.value) c.if-n-eq1.true
+pub returns-then-size-eq1 : goal.returns-then-size-eq1
+returns-then-size-eq1 c = direct_one _ _ (size_read c.args.power c.ranges.power _ c.unsigned_abs-size.ensures.value) c.if-size-eq1.true
 
-pub returns-else-n-eq1 : goal.returns-else-n-eq1
-returns-else-n-eq1 c = direct_two _ _ (size_read c.args.power c.ranges.power _ c.unsigned_abs-n.ensures.value) c.if-n-eq1.false
+pub returns-else-size-eq1 : goal.returns-else-size-eq1
+returns-else-size-eq1 c = direct_two _ _ (size_read c.args.power c.ranges.power _ c.unsigned_abs-size.ensures.value) c.if-size-eq1.false
