@@ -11,6 +11,7 @@ use lib.Dec.{eqb}
 use lib.Ieee.{Float}
 use lib.IntN.{ℤ, pos, negsuc, nat_abs}
 use lib.ListN.{length, take, drop}
+use lib.Seq.{length-take-le}
 use lib.Signed.{lt_z, le_z}
 use mir.Syntax.{w32}
 use mir.Val.{SFits, to_z, of_z}
@@ -62,6 +63,14 @@ unfolding added_dims
 added_le Vanilla = omega arith
 added_le Projective = omega arith
 added_le (Cl p n z) = omega arith
+
+-- The first power has the count of the value.
+pub first_fits : (s : Shape) (p : ℕ) (x out : List Float) → p ≡ 1 → length x ≡ 2 ^ s.dims → 2 ^ power_dims s p ≤ length out → length x ≤ length out
+unfolding power_dims is_direct
+first_fits s p x out e l h = rw l (rw (eq-eqb p 1 e) at h)
+
+pub first_taken : (s : Shape) (p : ℕ) (x out : List Float) → p ≡ 1 → length x ≡ 2 ^ s.dims → 2 ^ power_dims s p ≤ length out → length (take (length x) out) ≡ length x
+first_taken s p x out e l h = length-take-le (length x) out (first_fits s p x out e l h)
 
 -- ---- the digits
 

@@ -16,6 +16,7 @@ use product::mode::Mode;
 use product::products::multiply;
 
 // Whether the scalar test answered planar.
+#[tactic(auto, unfolding(crate::specs::Scalar::was_planar))]
 pub(crate) fn was_planar(test: ScalarTest) -> bool
     ensures { result ≡ was_planar test }
 {

@@ -133,11 +133,9 @@ pub fn mul(
 
 // The sums of the numbers at the front with those of b.
 fn sum_each<F: Fn(f64, f64) -> f64>(sum: F, b: &[f64], out: &mut [f64])
-    ghost op: { Sum }
     requires callable { F.IsAlwaysCallable sum }
-    requires sums { Sums (F.post sum) op }
     requires room { length b.now ≤ length out.old }
-    ensures { out.new ≡ laid (summed_each op (take (length b.now) out.old) b.now) out.old }
+    ensures { (op : Sum) → Sums (F.post sum) op → out.new ≡ laid (summed_each op (take (length b.now) out.old) b.now) out.old }
 {
     for (k, y) in b.iter().enumerate() {
         out[k] = sum(out[k], *y);
@@ -153,10 +151,8 @@ fn add_scalar<F: Fn(f64, f64) -> f64>(
     a: &[f64],
     out: &mut [f64],
 ) -> Result<Shape, Refusal>
-    ghost op: { Sum }
-    requires callable { F.IsAlwaysCallable sum }
-    requires sums { Sums (F.post sum) op }
-    ensures { Gives (with_coefs (summed_at0 op f) (conform_to left right a.now (length out.old))) result out.old out.new }
+    requires { F.IsAlwaysCallable sum }
+    ensures { (op : Sum) → Sums (F.post sum) op → Gives (with_coefs (summed_at0 op f) (conform_to left right a.now (length out.old))) result out.old out.new }
 {
     let shape = left.conform_to(right, a, out)?;
     out[0] = sum(out[0], f);
@@ -172,10 +168,8 @@ fn add_other<F: Fn(f64, f64) -> f64>(
     b: &[f64],
     out: &mut [f64],
 ) -> Result<Shape, Refusal>
-    ghost op: { Sum }
-    requires callable { F.IsAlwaysCallable sum }
-    requires sums { Sums (F.post sum) op }
-    ensures { Gives (summed_pair op (conform left right a.now b.now (length out.old) 512)) result out.old out.new }
+    requires { F.IsAlwaysCallable sum }
+    ensures { (op : Sum) → Sums (F.post sum) op → Gives (summed_pair op (conform left right a.now b.now (length out.old) 512)) result out.old out.new }
 {
     let mut y = [0.0; 512];
     let (shape, _) = left.conform(right, a, b, out, &mut y)?;
@@ -185,11 +179,9 @@ fn add_other<F: Fn(f64, f64) -> f64>(
 
 // The sums of two values of one count, from where they lie. `sum_each` would want a copy of the left one in the output first.
 fn put_sums<F: Fn(f64, f64) -> f64>(sum: F, a: &[f64], b: &[f64], out: &mut [f64])
-    ghost op: { Sum }
     requires callable { F.IsAlwaysCallable sum }
-    requires sums { Sums (F.post sum) op }
     requires room { (length a.now ≡ length b.now) × (length a.now ≤ length out.old) }
-    ensures { out.new ≡ laid (summed_each op a.now b.now) out.old }
+    ensures { (op : Sum) → Sums (F.post sum) op → out.new ≡ laid (summed_each op a.now b.now) out.old }
 {
     for (i, x) in a.iter().enumerate() {
         out[i] = sum(*x, b[i]);
@@ -205,11 +197,9 @@ fn add_each<F: Fn(f64, f64) -> f64>(
     b: &[f64],
     out: &mut [f64],
 ) -> Result<Shape, Refusal>
-    ghost op: { Sum }
     requires callable { F.IsAlwaysCallable sum }
-    requires sums { Sums (F.post sum) op }
     requires accepted { refusal (pair_tests left.dims right.dims (joined_dims left right true) (length a.now) (length b.now) (length out.old)) ≡ 0 }
-    ensures { Gives (summed_pair op (conform left right a.now b.now (length out.old) 512)) result out.old out.new }
+    ensures { (op : Sum) → Sums (F.post sum) op → Gives (summed_pair op (conform left right a.now b.now (length out.old) 512)) result out.old out.new }
 {
     if !left.agrees(right) {
         return add_other(sum, left, right, a, b, out);
@@ -227,10 +217,8 @@ fn add_values<F: Fn(f64, f64) -> f64>(
     b: &[f64],
     out: &mut [f64],
 ) -> Result<Shape, Refusal>
-    ghost op: { Sum }
-    requires callable { F.IsAlwaysCallable sum }
-    requires sums { Sums (F.post sum) op }
-    ensures { Gives (addition op left right a.now b.now (length out.old)) result out.old out.new }
+    requires { F.IsAlwaysCallable sum }
+    ensures { (op : Sum) → Sums (F.post sum) op → Gives (addition op left right a.now b.now (length out.old)) result out.old out.new }
 {
     let other = is_other(right, b);
     joined_refusal(left, right, other, a, b, out.len())?;

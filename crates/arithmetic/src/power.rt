@@ -21,8 +21,8 @@ use masks::shape::Shape;
 fn is_direct(power: i32) -> bool
     ensures { result ≡ is_direct (size_of power) }
 {
-    let n = power.unsigned_abs();
-    n == 1 || n == 2
+    let size = power.unsigned_abs();
+    size == 1 || size == 2
 }
 
 // The dimensions of a power.
@@ -152,6 +152,7 @@ fn raise_by_digits(given: &[u16], shape: Shape, power: u32, x: &[f64], out: &mut
 }
 
 // x to the power.
+#[tactic(auto, using(crate::proofs::PowerLaws::first_fits, crate::proofs::PowerLaws::first_taken))]
 fn raise(given: &[u16], shape: Shape, power: u32, x: &[f64], out: &mut [f64])
     requires in_order { InOrder given.now shape.dims }
     requires power_bound { (power_dims shape power ≤ 9) × (shape.dims ≤ 9) × (power < 2 ^ 31) }

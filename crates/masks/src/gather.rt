@@ -1,4 +1,5 @@
 // Coefficients read by mask and by grade, and written from the front of an output: what changes of shape, building and unpacking share.
+// A value's dimensions and its numbers are passed apart, as every public call takes them: a struct of both would be made anew for each call.
 ghost use Rattle.std.specs.Prelude.{◌≡◌, map, ◌+◌, ◌^◌, ◌≤◌, ◌<◌, length, take, drop, replicate};
 ghost use Rattle.std.proofs.lemmas.List.Edits.{sets};
 ghost use Rattle.masks.specs.Order.{order};

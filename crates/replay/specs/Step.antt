@@ -1,5 +1,5 @@
 -- One step: what the named operation does to a pose. Assumes nothing.
-use Rattle.std.specs.Prelude.{Bool, false, map, ℕ, ◌^◌, take, drop, Option, None, Some}
+use Rattle.std.specs.Prelude.{Bool, false, map, ℕ, ◌^◌, take, drop, Option, None, Some, unwrap_or}
 use Rattle.std.specs.Float.{binary64}
 use Rattle.std.specs.Float.Ieee.{of_bits}
 use Rattle.masks.specs.Outcome.{Outcome, unless, value, refused_value}
@@ -22,13 +22,9 @@ sheet_value sheet i =
     value placed.shape (map (of_bits binary64) (take (2 ^ placed.shape.dims) (drop placed.start sheet.patterns)))
 
 -- The index of the value that a step names, and 0 where it names none.
-abbrev pub index_in : Option ℕ → ℕ
-index_in None = 0
-index_in (Some k) = k
-
 unfoldable pub named : Option Step → ℕ
 named None = 0
-named (Some s) = index_in (names s)
+named (Some s) = unwrap_or (names s) 0
 
 -- ---- what it does, in room for any value
 

@@ -51,12 +51,12 @@ pub(crate) fn step_of(kind: u8, argument: u8) -> Option<Step>
 fn step_fits(step: Option<Step>, count: usize) -> bool
     ensures { result ≡ fits count step }
 {
-    let Some(step) = step else {
-        return false;
-    };
-    match step.names() {
-        Some(k) => usize::from(k) < count,
-        None => true,
+    match step {
+        Some(step) => match step.names() {
+            Some(k) => usize::from(k) < count,
+            None => true,
+        },
+        None => false,
     }
 }
 
@@ -65,7 +65,12 @@ fn all_fit(log: &[u8], count: usize) -> bool
     ensures { result ≡ all_fit count (steps_of log.now) }
 {
     let (pairs, rest) = log.as_chunks::<2>();
-    rest.is_empty() && pairs.iter().all(|pair| step_fits(step_of(pair[0], pair[1]), count))
+    if !rest.is_empty() {
+        return false;
+    }
+    pairs
+        .iter()
+        .all(|pair| step_fits(step_of(pair[0], pair[1]), count))
 }
 
 // How many steps a log has: a byte that is left over is one.

@@ -21,14 +21,38 @@ use sheets::shapes::Shapes;
 // The form of the rig sheet that there is.
 pub const FIRST_FORM: u8 = 1;
 
-// The pose at the end of a replay, from the array that has its turn.
-fn put_pose(turned: bool, shape: Shape, x: &[f64], y: &[f64], out: &mut [f64])
+// The first n numbers of a list, from the front of the output.
+fn put_first(n: usize, a: &[f64], out: &mut [f64])
+    requires { (n ≤ length a.now) × (n ≤ length out.old) }
+    ensures { out.new ≡ laid (take n a.now) out.old }
+{
+    out[..n].copy_from_slice(&a[..n]);
+}
+
+// The end of a replay: the pose, from the array that has its turn.
+fn finish(
+    turned: bool,
+    shape: Shape,
+    steps: usize,
+    stopped: Option<Refusal>,
+    x: &[f64],
+    y: &[f64],
+    out: &mut [f64],
+) -> Replay
     requires { (shape.dims ≤ 9) × (length x.now ≡ 512) × (length y.now ≡ 512) × (512 ≤ length out.old) }
-    ensures { out.new ≡ laid (take (2 ^ shape.dims) (turn turned x.now y.now)) out.old }
+    ensures { (result ≡ record { shape = shape; steps = steps; stopped = stopped }) × (out.new ≡ laid (take (2 ^ shape.dims) (turn turned x.now y.now)) out.old) }
 {
     let n = blades_or_none(shape.dims);
-    let pose = if turned { y } else { x };
-    out[..n].copy_from_slice(&pose[..n]);
+    if turned {
+        put_first(n, y, out);
+    } else {
+        put_first(n, x, out);
+    }
+    Replay {
+        shape,
+        steps,
+        stopped,
+    }
 }
 
 // The steps of a log, from value 0 on; the pose is in two arrays that take turns.
@@ -52,44 +76,21 @@ fn run(sheet: &[u8], shapes: &Shapes, log: &[u8], out: &mut [f64]) -> Replay
         let k = usize::from(step.names().unwrap_or(0));
         let other = listed[k];
         put_named(step, other, sheet, count, starts[k], &mut held);
-        match take_turn(turned, step, shape, other, &held, &mut x, &mut y) {
-            Ok(tried) => {
-                shape = tried.shape;
-                turned = !turned;
-                if tried.halts {
-                    put_pose(turned, shape, &x, &y, out);
-                    return Replay {
-                        shape,
-                        steps: steps + 1,
-                        stopped: None,
-                    };
-                }
-            }
-            Err(refusal) => {
-                put_pose(turned, shape, &x, &y, out);
-                return Replay {
-                    shape,
-                    steps,
-                    stopped: Some(refusal),
-                };
-            }
+        let tried = match take_turn(turned, step, shape, other, &held, &mut x, &mut y) {
+            Ok(tried) => tried,
+            Err(refusal) => return finish(turned, shape, steps, Some(refusal), &x, &y, out),
+        };
+        shape = tried.shape;
+        turned = !turned;
+        if tried.halts {
+            return finish(turned, shape, steps + 1, None, &x, &y, out);
         }
     }
-    put_pose(turned, shape, &x, &y, out);
-    Replay {
-        shape,
-        steps: pairs.len(),
-        stopped: None,
-    }
+    finish(turned, shape, pairs.len(), None, &x, &y, out)
 }
 
 // The pose that a log leads to over the values of a sheet, from the front of the output.
-pub fn replay(
-    form: u8,
-    sheet: &[u8],
-    log: &[u8],
-    out: &mut [f64],
-) -> Result<Replay, Refusal>
+pub fn replay(form: u8, sheet: &[u8], log: &[u8], out: &mut [f64]) -> Result<Replay, Refusal>
     ensures { Replays (replay form sheet.now log.now (length out.old)) result out.old out.new }
 {
     if form != FIRST_FORM {

@@ -1,7 +1,7 @@
 // One step: what the named operation does to a pose.
-ghost use Rattle.std.specs.Prelude.{◌≡◌, false, ◌^◌, ◌≤◌, length, Some, Ok};
-ghost use Rattle.masks.specs.Outcome.{value, Gives};
-ghost use Rattle.replay.specs.Step.{stepped, fires};
+ghost use Rattle.std.specs.Prelude.{◌≡◌, false, ℕ, ◌^◌, ◌≤◌, length, Ok, Err, MatchResult};
+ghost use Rattle.masks.specs.Outcome.{value};
+ghost use Rattle.replay.specs.declared.log.Step.TheVariants.{Halt};
 ghost use Rattle.replay.specs.inner.Turns.{held_value, Tries, turn};
 
 use super::log::Step;
@@ -21,10 +21,10 @@ pub struct Tried {
 
 // What a step answers that does not halt.
 fn goes_on(answer: Result<Shape, Refusal>) -> Result<Tried, Refusal>
-    ensures { result ≡ result_map (λ s. record { shape = s; halts = false }) answer }
+    ensures { MatchResult answer (λ s. result ≡ Ok (record { shape = s; halts = false })) (λ refused. result ≡ Err refused) }
 {
-    Ok(Tried {
-        shape: answer?,
+    answer.map(|shape| Tried {
+        shape,
         halts: false,
     })
 }
@@ -82,7 +82,7 @@ pub(crate) fn take_turn(
     let n = blades_or_none(shape.dims);
     let m = blades_or_none(other.dims);
     if turned {
-        return try_step(step, shape, other, &y[..n], &named[..m], x);
+        return try_step(step, shape, other, &y[0..n], &named[0..m], x);
     }
-    try_step(step, shape, other, &x[..n], &named[..m], y)
+    try_step(step, shape, other, &x[0..n], &named[0..m], y)
 }

@@ -1,5 +1,5 @@
 -- The arrays in which a pose and a named value are held. For the contracts of private functions: no public contract rests on it. Assumes nothing.
-use Rattle.std.specs.Prelude.{◌≡◌, Bool, true, false, cond, List, map, ℕ, ◌+◌, ◌*◌, ◌^◌, Float, take, drop, Option, Some, Result, MatchResult}
+use Rattle.std.specs.Prelude.{◌≡◌, Bool, cond, List, map, ℕ, ◌+◌, ◌*◌, ◌^◌, Float, take, drop, Some, Result, MatchResult}
 use Rattle.std.specs.Float.{binary64}
 use Rattle.std.specs.Float.Ieee.{of_bits}
 use Rattle.masks.specs.declared.outcome.Refusal.{Refusal}

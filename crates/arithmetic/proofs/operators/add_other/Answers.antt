@@ -3,13 +3,13 @@ use mathlib.Core.List.{List}
 use Prim.Native.Nat.{ℕ, zero, suc, ◌^◌, ◌≤◌}
 use native.Mathlib.Omega.{arith}
 use lib.Ieee.{Float}
-use lib.ListN.{length, take, drop, length-append, length-take}
+use lib.ListN.{length, take, drop, length-append}
 use lib.Seq.{length-take-le}
-use Rattle.std.specs.Prelude.{Result, Ok, Err}
+use Rattle.std.specs.Prelude.{Ok, Err}
 use Rattle.std.proofs.lemmas.Result.{err_from_is_err_and}
 use Rattle.masks.specs.declared.outcome.Refusal.{Refusal}
 use Rattle.masks.specs.declared.shape.Shape.{Shape}
-use Rattle.masks.specs.Outcome.{Pair, Gives, GivesBoth, number_of, unless, value, refused_value, refused_pair, laid}
+use Rattle.masks.specs.Outcome.{Pair, Gives, GivesBoth, unless, refused_pair, laid}
 use Rattle.masks.specs.Shape.{conformed_shape, conform, meeting_dims}
 use Rattle.masks.proofs.ShapeLaws.{paired, conform_dims, conform_lengths}
 use Rattle.masks.proofs.ListLaws.{take_laid}
@@ -86,9 +86,9 @@ module _ (s t : Shape) (a b : List Float) (room : ℕ) (bx ax by ay : List Float
           }
 
 pub returns-in_err-shape : goal.returns-in_err-shape
-returns-in_err-shape g c =
+returns-in_err-shape g c op h =
     let q = err_from_is_err_and c.from_residual.result c.from_residual.ensures.1 in
-    rw (q.1, q.2) (sum_refused _ _ _ _ _ _ _ _ _ _ c.in_err-shape.ensures g.op)
+    rw (q.1, q.2) (sum_refused _ _ _ _ _ _ _ _ _ _ c.in_err-shape.ensures op)
 
 pub slice_bounds-y-end : goal.slice_bounds-y-end
 slice_bounds-y-end g c =
@@ -100,14 +100,14 @@ slice_bounds-sum_each-end g c =
     let l = small _ _ _ _ _ _ _ _ _ (c.in_ok-shape.shape, c.in_ok-shape.field-0-1) c.in_ok-shape.ensures in
     sym (length-take-le _ _ (omega (arith, none_counted c.blades_or_none.ensures l, blades_le _ l, c.conform.auto.out_right)))
 
-pub sum_each-requires : goal.sum_each-requires
-sum_each-requires g c κs within =
+pub sum_each-requires-clause-room : goal.sum_each-requires-clause-room
+sum_each-requires-clause-room g c =
     let u : Shape × Shape = (c.in_ok-shape.shape, c.in_ok-shape.field-0-1) in
     let l = small _ _ _ _ _ _ _ _ _ u c.in_ok-shape.ensures in
-    (within, (c.requires.1.0, (c.requires.1.1, fits _ _ _ _ _ _ _ _ _ u c.in_ok-shape.ensures c.blades_or_none.result (none_counted c.blades_or_none.ensures l))))
+    fits _ _ _ _ _ _ _ _ _ u c.in_ok-shape.ensures c.blades_or_none.result (none_counted c.blades_or_none.ensures l)
 
 pub returns : goal.returns
-returns g c =
+returns g c op h =
     let u : Shape × Shape = (c.in_ok-shape.shape, c.in_ok-shape.field-0-1) in
     let l = small _ _ _ _ _ _ _ _ _ u c.in_ok-shape.ensures in
-    sum_over _ _ _ _ _ _ _ _ _ u c.in_ok-shape.ensures c.blades_or_none.result (none_counted c.blades_or_none.ensures l) g.op _ c.sum_each.ensures
+    sum_over _ _ _ _ _ _ _ _ _ u c.in_ok-shape.ensures c.blades_or_none.result (none_counted c.blades_or_none.ensures l) op _ (c.sum_each.ensures op h)

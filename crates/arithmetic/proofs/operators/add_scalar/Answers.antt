@@ -39,9 +39,9 @@ bounds-out-0-2 g c = let h : 0 < length c.conform_to.new.out = held _ _ _ _ _ _ 
 
 pub returns-in_err-shape : goal.returns-in_err-shape
 unfolding summed_at0
-returns-in_err-shape g c =
+returns-in_err-shape g c op h =
     let p = err_from_is_err_and c.from_residual.result c.from_residual.ensures.1 in
-    rw (p.1, p.2) (changed_none _ _ _ _ _ _ c.in_err-shape.ensures (summed_at0 g.op c.args.f) refl)
+    rw (p.1, p.2) (changed_none _ _ _ _ _ _ c.in_err-shape.ensures (summed_at0 op c.args.f) refl)
 
 pub returns : goal.returns
-returns g c = summed_over _ _ _ _ _ _ c.in_ok-shape.ensures g.op c.args.f c.sum.result (c.requires.1.1 _ _ _ c.sum.ensures)
+returns g c op h = summed_over _ _ _ _ _ _ c.in_ok-shape.ensures op c.args.f c.sum.result (h _ _ _ c.sum.ensures)

@@ -15,6 +15,7 @@ use Rattle.masks.specs.Outcome.{Gives, refusal, number_of, pair_tests}
 use Rattle.masks.specs.Shape.{conform_to, conform}
 use Rattle.masks.proofs.OutcomeLaws.{gives_refused}
 use Rattle.arithmetic.specs.Operators.{is_other, joined_dims, operator_tests, with_coefs, Sum, summed_at0, summed_pair, addition}
+use Rattle.arithmetic.specs.Operators.Sum.{Plus}
 use Rattle.arithmetic.proofs.OperatorsLaws.{other_numbered, operator_passed, add_by_scalar, add_by_other, was_other, was_scalar}
 use Rattle.arithmetic.proofs.operators.add_values.Goals as goal
 
@@ -41,30 +42,28 @@ module _ (s t : Shape) (a b out : List Float) (other : Bool) (h : t.dims ≤ 9 �
     first = omega (arith, (operator_passed s t a b (length out) unrefused).counted_right, pow_pos t.dims)
 
 pub returns-in_err-joined_refusal : goal.returns-in_err-joined_refusal
-returns-in_err-joined_refusal g c =
+returns-in_err-joined_refusal g c op h =
     let a = c.args in
     let p = err_from_is_err_and c.from_residual.result c.from_residual.ensures.1 in
-    rw (p.1, p.2) (refused a.left a.right a.a.now a.b.now a.out.now c.is_other-other.result c.is_other-other.ensures g.op c.in_err-joined_refusal.field-0.0 c.in_err-joined_refusal.ensures)
+    rw (p.1, p.2) (refused a.left a.right a.a.now a.b.now a.out.now c.is_other-other.result c.is_other-other.ensures op c.in_err-joined_refusal.field-0.0 c.in_err-joined_refusal.ensures)
 
-pub add_each-requires : goal.add_each-requires
-add_each-requires g c κs within =
+pub add_each-requires-clause-accepted : goal.add_each-requires-clause-accepted
+add_each-requires-clause-accepted g c =
     let a = c.args in
-    let r = c.requires.1 in
-    let accepted = ap (λ (x : Bool). refusal (pair_tests a.left.dims a.right.dims (joined_dims a.left a.right x) (length a.a.now) (length a.b.now) (length a.out.now))) (sym c.if-other.true) ∙ c.in_ok-joined_refusal.ensures.0 in
-    (within, (r.0, (r.1, accepted)))
+    ap (λ (x : Bool). refusal (pair_tests a.left.dims a.right.dims (joined_dims a.left a.right x) (length a.a.now) (length a.b.now) (length a.out.now))) (sym c.if-other.true) ∙ c.in_ok-joined_refusal.ensures.0
 
 pub returns-then-other : goal.returns-then-other
-returns-then-other g c =
+returns-then-other g c op h =
     let a = c.args in
-    rw (by_other a.left a.right a.a.now a.b.now a.out.now _ c.is_other-other.ensures g.op c.in_ok-joined_refusal.ensures.0 c.if-other.true) c.add_each.ensures
+    rw (by_other a.left a.right a.a.now a.b.now a.out.now _ c.is_other-other.ensures op c.in_ok-joined_refusal.ensures.0 c.if-other.true) (c.add_each.ensures op h)
 
 pub bounds-b-0 : goal.bounds-b-0
 bounds-b-0 g c =
     let a = c.args in
-    let h : 0 < length a.b.now = first a.left a.right a.a.now a.b.now a.out.now _ c.is_other-other.ensures g.op c.in_ok-joined_refusal.ensures.0 in
+    let h : 0 < length a.b.now = first a.left a.right a.a.now a.b.now a.out.now _ c.is_other-other.ensures Plus c.in_ok-joined_refusal.ensures.0 in
     search rules
 
 pub returns : goal.returns
-returns g c =
+returns g c op h =
     let a = c.args in
-    rw (by_scalar a.left a.right a.a.now a.b.now a.out.now _ c.is_other-other.ensures g.op c.in_ok-joined_refusal.ensures.0 c.if-other.false) c.add_scalar.ensures
+    rw (by_scalar a.left a.right a.a.now a.b.now a.out.now _ c.is_other-other.ensures op c.in_ok-joined_refusal.ensures.0 c.if-other.false) (c.add_scalar.ensures op h)

@@ -16,14 +16,14 @@ put_step op a b out e h k now y l f q =
     rw f (front_step k (summed_each op a b) nan out y (q ∙ sym (each_at op a b k l (omega arith))) (omega (arith, each_length op a b e)) (omega arith))
 
 pub loop-i-preserved : goal.loop-i-preserved
-loop-i-preserved g c =
+loop-i-preserved g c op h =
     let s = c.args in
-    let r = c.requires.1.1.1 in
-    put_step g.op s.a.now s.b.now s.out.now r.0 r.1 c.loop-i.i c.loop-i.out c.sum.result c.loop-i-test.true c.loop-i.invariant (c.requires.1.1.0 _ _ _ c.sum.ensures)
+    let r = c.requires.room in
+    put_step op s.a.now s.b.now s.out.now r.0 r.1 c.loop-i.i c.loop-i.out c.sum.result c.loop-i-test.true (c.loop-i.invariant op h) (h _ _ _ c.sum.ensures)
 
 pub returns : goal.returns
-returns g c =
+returns g c op h =
     let s = c.args in
     let l = c.loop-i in
     let e : l.i ≡ length s.a.now = omega (arith, c.loop-i-test.false, l.auto.i-end) in
-    l.invariant ∙ front_all l.i (summed_each g.op s.a.now s.b.now) s.out.now (each_length g.op s.a.now s.b.now c.requires.1.1.1.0 ∙ sym e)
+    l.invariant op h ∙ front_all l.i (summed_each op s.a.now s.b.now) s.out.now (each_length op s.a.now s.b.now c.requires.room.0 ∙ sym e)

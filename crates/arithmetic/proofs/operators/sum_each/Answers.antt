@@ -7,7 +7,7 @@ use lib.ListN.{length, get_or, set, take}
 use lib.Seq.{length-take-le, get_or-take}
 use Rattle.masks.proofs.ListLaws.{front, front_step, front_all}
 use Rattle.product.proofs.ListLaws.{front_next}
-use Rattle.arithmetic.specs.Operators.{Sum, summed, summed_each}
+use Rattle.arithmetic.specs.Operators.{Sum, summed}
 use Rattle.arithmetic.proofs.OperatorsLaws.{each_length, each_at}
 use Rattle.arithmetic.proofs.operators.sum_each.Invariants.{sums}
 use Rattle.arithmetic.proofs.operators.sum_each.Goals as goal
@@ -32,14 +32,14 @@ module _ (op : Sum) (b out : List Float) (h : length b ≤ length out) where
       rw e (front_step k (sums op b out) nan out y next (omega (arith, sums_length)) (omega arith))
 
 pub loop-k-preserved : goal.loop-k-preserved
-loop-k-preserved g c =
+loop-k-preserved g c op h =
     let s = c.args in
     let l = c.loop-k in
-    sums_step g.op s.b.now s.out.now c.requires.1.1.1 l.k l.out c.sum.result c.loop-k-test.true l.invariant (c.requires.1.1.0 _ _ _ c.sum.ensures)
+    sums_step op s.b.now s.out.now c.requires.room l.k l.out c.sum.result c.loop-k-test.true (l.invariant op h) (h _ _ _ c.sum.ensures)
 
 pub returns : goal.returns
-returns g c =
+returns g c op h =
     let s = c.args in
     let l = c.loop-k in
     let e : l.k ≡ length s.b.now = omega (arith, c.loop-k-test.false, l.auto.k-end) in
-    l.invariant ∙ front_all l.k (sums g.op s.b.now s.out.now) s.out.now (sums_length g.op s.b.now s.out.now c.requires.1.1.1 ∙ sym e)
+    l.invariant op h ∙ front_all l.k (sums op s.b.now s.out.now) s.out.now (sums_length op s.b.now s.out.now c.requires.room ∙ sym e)

@@ -1,8 +1,8 @@
-use mathlib.Core.Path.{◌≡◌, sym, ap, ◌∙◌}
+use mathlib.Core.Path.{◌≡◌}
 use Prim.Native.Nat.{ℕ}
 use borrow.Author.Tests.{eq-eqb, ne_eqb}
 use lib.Dec.{eqb}
-use Rattle.arithmetic.specs.Power.{size_of, is_direct}
+use Rattle.arithmetic.specs.Power.{is_direct}
 use Rattle.arithmetic.proofs.PowerLaws.{size_read}
 use Rattle.arithmetic.proofs.power.is_direct.Goals as goal
 
@@ -15,8 +15,8 @@ module _ (n m : ℕ) (e : n ≡ m) where
   unfolding is_direct
   direct_two h = rw (← e, ne_eqb n 1 h)
 
-pub returns-then-n-eq1 : goal.returns-then-n-eq1
-returns-then-n-eq1 c = direct_one _ _ (size_read c.args.power c.ranges.power _ c.unsigned_abs-n.ensures.value) c.if-n-eq1.true
+pub returns-then-size-eq1 : goal.returns-then-size-eq1
+returns-then-size-eq1 c = direct_one _ _ (size_read c.args.power c.ranges.power _ c.unsigned_abs-size.ensures.value) c.if-size-eq1.true
 
-pub returns-else-n-eq1 : goal.returns-else-n-eq1
-returns-else-n-eq1 c = direct_two _ _ (size_read c.args.power c.ranges.power _ c.unsigned_abs-n.ensures.value) c.if-n-eq1.false
+pub returns-else-size-eq1 : goal.returns-else-size-eq1
+returns-else-size-eq1 c = direct_two _ _ (size_read c.args.power c.ranges.power _ c.unsigned_abs-size.ensures.value) c.if-size-eq1.false

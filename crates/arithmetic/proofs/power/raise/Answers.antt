@@ -14,14 +14,9 @@ use Rattle.arithmetic.specs.Power.{is_direct, power_dims, by_digits, raised_to}
 use Rattle.arithmetic.proofs.power.raise.Goals as goal
 
 module _ (s : Shape) (p : ℕ) (x : List Float) where
-  module _ (e : p ≡ 1) where
-    dims_one : power_dims s p ≡ s.dims
-    unfolding power_dims is_direct
-    dims_one = rw (eq-eqb p 1 e)
-
-    raised_one : raised_to s p x ≡ x
-    unfolding raised_to
-    raised_one = rw (eq-eqb p 1 e)
+  raised_one : p ≡ 1 → raised_to s p x ≡ x
+  unfolding raised_to
+  raised_one e = rw (eq-eqb p 1 e)
 
   module _ (h : p ≡ 1 → ⊥) where
     module _ (e : p ≡ 2) where
@@ -48,23 +43,6 @@ room e h = rw (sym e) h
 
 laid_as : (out : List Float) {after xs ys : List Float} → xs ≡ ys → after ≡ laid ys out → after ≡ laid xs out
 laid_as out e h = rw e h
-
--- The first power has the count of the value.
-long : (s : Shape) (p : ℕ) (x out : List Float) → p ≡ 1 → length x ≡ 2 ^ s.dims → 2 ^ power_dims s p ≤ length out → length x ≤ length out
-long s p x out e l h = omega (arith, l, room (dims_one s p x e) h)
-
-pub slice_bounds-copy_from_slice-end : goal.slice_bounds-copy_from_slice-end
-slice_bounds-copy_from_slice-end c = let a = c.args in long a.shape a.power a.x.now a.out.now c.if-power-eq1.true c.requires.x_len.0 c.requires.x_len.1
-
-pub slice_bounds-copy_from_slice-end-then-power-eq1 : goal.slice_bounds-copy_from_slice-end-then-power-eq1
-slice_bounds-copy_from_slice-end-then-power-eq1 c =
-    let a = c.args in
-    sym (length-take-le _ _ (long a.shape a.power a.x.now a.out.now c.if-power-eq1.true c.requires.x_len.0 c.requires.x_len.1))
-
-pub copy_from_slice-requires : goal.copy_from_slice-requires
-copy_from_slice-requires c =
-    let a = c.args in
-    length-take-le _ _ (long a.shape a.power a.x.now a.out.now c.if-power-eq1.true c.requires.x_len.0 c.requires.x_len.1)
 
 pub returns-then-power-eq1 : goal.returns-then-power-eq1
 returns-then-power-eq1 c =

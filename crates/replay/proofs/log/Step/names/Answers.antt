@@ -1,5 +1,5 @@
-use Rattle.replay.specs.inner.Turns.{names}
-use Rattle.replay.proofs.log.names.Goals as goal
+use Rattle.replay.specs.Log.{names}
+use Rattle.replay.proofs.log.Step.names.Goals as goal
 
 pub returns-in-Right : goal.returns-in-Right
 unfolding names
@@ -20,7 +20,3 @@ returns-in-Dims c = rw c.in-Dims.is
 pub returns-in-Halt : goal.returns-in-Halt
 unfolding names
 returns-in-Halt c = rw c.in-Halt.is
-
-pub returns-in-Unknown : goal.returns-in-Unknown
-unfolding names
-returns-in-Unknown c = rw c.in-Unknown.is
