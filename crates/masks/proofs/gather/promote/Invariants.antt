@@ -1,6 +1,6 @@
 use mathlib.Core.Path.{◌≡◌}
 use mathlib.Core.List.{map}
-use Prim.Native.Nat.{◌+◌, ◌-◌, ◌≤◌}
+use Prim.Native.Nat.{◌+◌}
 use Rattle.masks.specs.Order.{grades_below, size, start}
 use Rattle.masks.specs.Outcome.{laid}
 use Rattle.masks.specs.Shape.{promoted_coef}

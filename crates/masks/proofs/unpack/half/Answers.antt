@@ -27,18 +27,10 @@ enough d count held h c l = omega (arith, blades_le d h)
 chosen : (odd lone dims d : ℕ) (a out : List Float) → (d ≡ 0 → ⊥) → laid (map (coef dims a) (choose odd (order d))) out ≡ laid (map (coef dims a) (half_masks odd lone d)) out
 chosen odd lone dims d a out h = rw (half_masks_lem odd lone d h)
 
-pub bounds-out-0 : goal.bounds-out-0
-bounds-out-0 c = room c.args.d _ c.requires.3
-
 pub returns-then-d-eq0 : goal.returns-then-d-eq0
 returns-then-d-eq0 c =
     set_split c.args.out.now 0 c.coefficient.result (room c.args.d _ c.requires.3)
     ∙ rw (c.coefficient.ensures, lone_mask (odd_of c.args.parity) c.args.lone c.args.d c.if-d-eq0.true)
-
-pub take_half-requires : goal.take_half-requires
-take_half-requires c =
-    let p = c.requires in
-    (omega (arith, c.if-d-eq0.false), p.1, p.2 ∙ ap (λ n. 2 ^ n) (sym c.if-d-dims.true), p.3)
 
 pub returns-then-d-dims : goal.returns-then-d-dims
 returns-then-d-dims c =

@@ -1,5 +1,4 @@
 use mathlib.Core.List.{map}
-use Prim.Native.Nat.{◌-◌, ◌^◌}
 use lib.Ieee.{nan}
 use Rattle.masks.specs.Order.{order}
 use Rattle.masks.specs.Shape.{coef}
