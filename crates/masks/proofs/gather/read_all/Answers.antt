@@ -11,12 +11,12 @@ use Rattle.masks.proofs.gather.read_all.Goals as goal
 
 pub copy_all-requires : goal.copy_all-requires
 copy_all-requires c =
-    let h : length c.args.a.now ≤ length c.args.out.now = omega (arith, c.requires.2, c.requires.3, ap (λ n. 2 ^ n) c.if-dims-d.true) in
+    let h : length c.args.value.numbers.now ≤ length c.args.out.now = omega (arith, c.args.value.counted, c.requires.1, ap (λ n. 2 ^ n) c.if-value-d.true) in
     h
 
-pub returns-then-dims-d : goal.returns-then-dims-d
-returns-then-dims-d c =
+pub returns-then-value-d : goal.returns-then-value-d
+returns-then-value-d c =
     let a = c.args in
     c.copy_all.ensures
     ∙ ap (λ xs. laid xs a.out.now)
-    (sym (ordered (coef a.dims a.a.now) a.dims a.a.now c.requires.2 (λ m l. refl)) ∙ ap (λ n. map (coef a.dims a.a.now) (order n)) c.if-dims-d.true)
+    (sym (ordered (coef a.value.dims a.value.numbers.now) a.value.dims a.value.numbers.now c.args.value.counted (λ m l. refl)) ∙ ap (λ n. map (coef a.value.dims a.value.numbers.now) (order n)) c.if-value-d.true)
