@@ -5,6 +5,8 @@ ghost use Rattle.masks.specs.Order.{order};
 ghost use Rattle.masks.specs.Outcome.{laid, nought};
 ghost use Rattle.masks.specs.Shape.{coef, negates, resized, promoted, conformed};
 
+use std::cmp::Ordering;
+
 use super::coefs::Coefs;
 use super::order::{blades, place_of, size_of};
 use super::walk::{grow, shrink};
@@ -49,15 +51,11 @@ pub(crate) fn read_all(value: Coefs, d: u8, out: &mut [f64])
     requires { (d ≤ 9) × (2 ^ d ≤ length out.old) }
     ensures { out.new ≡ laid (map (coef value.entry.dims value.entry.numbers.now) (order d)) out.old }
 {
-    if value.dims == d {
-        copy_all(value.numbers, out);
-        return;
+    match value.dims.cmp(&d) {
+        Ordering::Less => grow(value, d, out),
+        Ordering::Equal => copy_all(value.numbers, out),
+        Ordering::Greater => shrink(value, d, out),
     }
-    if value.dims < d {
-        grow(value, d, out);
-        return;
-    }
-    shrink(value, d, out);
 }
 
 // Whether a change of dimensions negates mask 101.

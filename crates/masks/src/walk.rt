@@ -19,13 +19,13 @@ fn next_backwards(dims: u8, x: u32) -> u32
     ensures { result ≡ next_backwards dims x }
 {
     let y = x + 1;
-    let ending = u32::trailing_zeros(y);
+    let ending = y.trailing_zeros();
     let others = x & y;
     if others == 0 {
         let first = bit(dims as u32);
         return first - (first >> (ending + 1));
     }
-    others - (bit(u32::trailing_zeros(others)) >> (ending + 1))
+    others - (bit(others.trailing_zeros()) >> (ending + 1))
 }
 
 // A value at the more dimensions n: its numbers in turn where a mask is its own, +0 elsewhere.

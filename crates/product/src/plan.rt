@@ -1,5 +1,5 @@
-// How a product is made.
-ghost use Rattle.std.specs.Prelude.{◌^◌, ◌≤◌, length};
+// How a product is made, and what of.
+ghost use Rattle.std.specs.Prelude.{◌≡◌, ◌^◌, ◌≤◌, length};
 
 use super::mode::Mode;
 use masks::shape::Shape;
@@ -12,4 +12,15 @@ pub struct Plan<'a> {
     pub given: &'a [u16],
     ghost small: { shape.dims ≤ 9 },
     ghost enough: { 2 ^ shape.dims ≤ length given.now },
+}
+
+// a's numbers by mask, and the sums, one for each mask.
+#[derive(Drop)]
+pub struct Sums<'a> {
+    pub dims: u8,
+    pub am: &'a [f64],
+    pub acc: &'a mut [f64],
+    ghost few: { dims ≤ 9 },
+    ghost left: { length am.now ≡ 2 ^ dims },
+    ghost sized: { length acc.now ≡ 2 ^ dims },
 }

@@ -13,7 +13,7 @@ ghost use Rattle.product.specs.inner.Plan.{plan_mask, taken_by, planned};
 
 use super::metric::{Blade, Squares, blade_of, squares_of};
 use super::mode::{Mode, flavor_for};
-use super::plan::Plan;
+use super::plan::{Plan, Sums};
 use super::snap::snap_one;
 
 // Whether the number of ones is odd. Those of a byte are counted in fewer operations, and only nine dimensions need more.
@@ -28,46 +28,43 @@ fn odd_ones(dims: u8, f: u32) -> usize
 }
 
 // One pair: a's number at the mask m times b's number, or times its negative where an odd number of m's vectors flip the sign. `ys` has both.
-fn add_pair(dims: u8, m: u32, blade: Blade, ys: &[f64], am: &[f64], acc: &mut [f64])
-    requires { (dims ≤ 9) × (m < 2 ^ dims) × (m < length am.now) × (bit_xor m blade.mask < length acc.old) × (length ys.now ≡ 2) }
-    ensures { acc.new ≡ set acc.old (bit_xor m blade.mask) (add binary64 (get_or acc.old (bit_xor m blade.mask) nan) (mul binary64 (get_or am.now m nan) (get_or ys.now (ones (bit_and m blade.flips) % 2) nan))) }
+fn add_pair(sums: &mut Sums, m: u32, blade: Blade, ys: &[f64])
+    requires { (m < 2 ^ sums.old.dims) × (blade.mask < 2 ^ sums.old.dims) × (length ys.now ≡ 2) }
+    ensures same_reference { sums.new.acc.ghost_name ≡ sums.old.acc.ghost_name }
+    ensures kept { (sums.new.dims ≡ sums.old.dims) × (sums.new.am ≡ sums.old.am) }
+    ensures added { sums.new.acc.now ≡ set sums.old.acc.now (bit_xor m blade.mask) (add binary64 (get_or sums.old.acc.now (bit_xor m blade.mask) nan) (mul binary64 (get_or sums.old.am.now m nan) (get_or ys.now (ones (bit_and m blade.flips) % 2) nan))) }
 {
     let c = (m ^ blade.mask) as usize;
-    let sign = odd_ones(dims, m & blade.flips);
-    acc[c] = acc[c] + am[m as usize] * ys[sign];
+    let sign = odd_ones(sums.dims, m & blade.flips);
+    sums.acc[c] = sums.acc[c] + sums.am[m as usize] * ys[sign];
 }
 
 // A blade of b with every mask.
-fn add_all(dims: u8, blade: Blade, y: f64, am: &[f64], acc: &mut [f64])
-    requires { (dims ≤ 9) × (blade.mask < 2 ^ dims) × (length am.now ≡ 2 ^ dims) × (length acc.old ≡ 2 ^ dims) }
-    ensures { acc.new ≡ with_pairs (λ m. true) blade y am.now acc.old }
+fn add_all(sums: &mut Sums, blade: Blade, y: f64)
+    requires { blade.mask < 2 ^ sums.old.dims }
+    ensures same_reference { sums.new.acc.ghost_name ≡ sums.old.acc.ghost_name }
+    ensures kept { (sums.new.dims ≡ sums.old.dims) × (sums.new.am ≡ sums.old.am) }
+    ensures added { sums.new.acc.now ≡ with_pairs (λ m. true) blade y sums.old.am.now sums.old.acc.now }
 {
     let ys = [y, -y];
-    for m in 0..acc.len() as u32 {
-        add_pair(dims, m, blade, &ys, am, acc);
+    for m in 0..sums.acc.len() as u32 {
+        add_pair(sums, m, blade, &ys);
     }
 }
 
 // A blade of b with the masks that have `base` and a subset of `free`, which share no bit: the subsets in rising order, from the given one on.
-fn add_subsets(
-    dims: u8,
-    base: u32,
-    free: u32,
-    from: u32,
-    blade: Blade,
-    y: f64,
-    am: &[f64],
-    acc: &mut [f64],
-)
-    requires dims_bound { (dims ≤ 9) × (blade.mask < 2 ^ dims) × (length am.now ≡ 2 ^ dims) × (length acc.old ≡ 2 ^ dims) }
-    requires free_bound { (base + free < 2 ^ dims) × (bit_and base free ≡ 0) × (bit_and from free ≡ from) }
-    ensures { acc.new ≡ with_pairs (subset_from base free from) blade y am.now acc.old }
+fn add_subsets(sums: &mut Sums, base: u32, free: u32, from: u32, blade: Blade, y: f64)
+    requires mask_bound { blade.mask < 2 ^ sums.old.dims }
+    requires free_bound { (base + free < 2 ^ sums.old.dims) × (bit_and base free ≡ 0) × (bit_and from free ≡ from) }
+    ensures same_reference { sums.new.acc.ghost_name ≡ sums.old.acc.ghost_name }
+    ensures kept { (sums.new.dims ≡ sums.old.dims) × (sums.new.am ≡ sums.old.am) }
+    ensures added { sums.new.acc.now ≡ with_pairs (subset_from base free from) blade y sums.old.am.now sums.old.acc.now }
 {
     let ys = [y, -y];
-    let step = acc.len() as u32 - free;
+    let step = sums.acc.len() as u32 - free;
     let mut s = from;
     loop {
-        add_pair(dims, base + s, blade, &ys, am, acc);
+        add_pair(sums, base + s, blade, &ys);
         s = (s + step) & free;
         if s == 0 {
             return;
@@ -76,47 +73,51 @@ fn add_subsets(
 }
 
 // A blade of b with the masks that it is within, but its own.
-fn add_beyond(dims: u8, blade: Blade, y: f64, am: &[f64], acc: &mut [f64])
-    requires { (dims ≤ 9) × (blade.mask < 2 ^ dims) × (length am.now ≡ 2 ^ dims) × (length acc.old ≡ 2 ^ dims) }
-    ensures { acc.new ≡ with_pairs (beyond blade.mask) blade y am.now acc.old }
+fn add_beyond(sums: &mut Sums, blade: Blade, y: f64)
+    requires { blade.mask < 2 ^ sums.old.dims }
+    ensures same_reference { sums.new.acc.ghost_name ≡ sums.old.acc.ghost_name }
+    ensures kept { (sums.new.dims ≡ sums.old.dims) × (sums.new.am ≡ sums.old.am) }
+    ensures added { sums.new.acc.now ≡ with_pairs (beyond blade.mask) blade y sums.old.am.now sums.old.acc.now }
 {
-    let n = acc.len() as u32;
+    let n = sums.acc.len() as u32;
     let free = (n - 1) ^ blade.mask;
     if free != 0 {
-        add_subsets(dims, blade.mask, free, (n - free) & free, blade, y, am, acc);
+        add_subsets(sums, blade.mask, free, (n - free) & free, blade, y);
     }
 }
 
 // All the pairs that a blade of b has.
-fn add_blade(dims: u8, mode: Mode, blade: Blade, y: f64, am: &[f64], acc: &mut [f64])
-    requires dims_bound { (dims ≤ 9) × (blade.mask < 2 ^ dims) × (length am.now ≡ 2 ^ dims) × (length acc.old ≡ 2 ^ dims) }
+fn add_blade(sums: &mut Sums, mode: Mode, blade: Blade, y: f64)
+    requires mask_bound { blade.mask < 2 ^ sums.old.dims }
     requires null_value { bit_and blade.mask blade.null ≡ blade.null }
-    ensures { acc.new ≡ with_pairs (meets mode blade) blade y am.now acc.old }
+    ensures same_reference { sums.new.acc.ghost_name ≡ sums.old.acc.ghost_name }
+    ensures kept { (sums.new.dims ≡ sums.old.dims) × (sums.new.am ≡ sums.old.am) }
+    ensures added { sums.new.acc.now ≡ with_pairs (meets mode blade) blade y sums.old.am.now sums.old.acc.now }
 {
-    let full = acc.len() as u32 - 1;
+    let full = sums.acc.len() as u32 - 1;
     let b = blade.mask;
     let null = blade.null;
     match mode {
         Mode::All => {
             if null == 0 {
-                add_all(dims, blade, y, am, acc);
+                add_all(sums, blade, y);
             } else {
-                add_subsets(dims, 0, full ^ null, 0, blade, y, am, acc);
+                add_subsets(sums, 0, full ^ null, 0, blade, y);
             }
         }
-        Mode::Left => add_subsets(dims, 0, b ^ null, 0, blade, y, am, acc),
+        Mode::Left => add_subsets(sums, 0, b ^ null, 0, blade, y),
         Mode::Right => {
             if null == 0 {
-                add_subsets(dims, b, full ^ b, 0, blade, y, am, acc);
+                add_subsets(sums, b, full ^ b, 0, blade, y);
             }
         }
         Mode::Inner => {
-            add_subsets(dims, 0, b ^ null, 0, blade, y, am, acc);
+            add_subsets(sums, 0, b ^ null, 0, blade, y);
             if null == 0 {
-                add_beyond(dims, blade, y, am, acc);
+                add_beyond(sums, blade, y);
             }
         }
-        Mode::Outer => add_subsets(dims, 0, full ^ null, 0, blade, y, am, acc),
+        Mode::Outer => add_subsets(sums, 0, full ^ null, 0, blade, y),
     }
 }
 
@@ -178,10 +179,12 @@ fn add_blades(plan: Plan, squares: Squares, turn: u32, b: &[f64], am: &[f64], ac
     requires { (length b.now ≡ 2 ^ plan.shape.dims) × (length am.now ≡ 2 ^ plan.shape.dims) × (acc.old ≡ replicate (2 ^ plan.shape.dims) nought) }
     ensures { let n = 2 ^ plan.entry.shape.dims in acc.new ≡ rows_below n (plan_mask plan.entry) turn plan.entry.mode squares am.now b.now n }
 {
+    let dims = plan.shape.dims;
+    let mut sums = Sums { dims, am, acc };
     for (j, x) in b.iter().enumerate() {
         let m = mask_at(plan, j);
         let y = turned_number(turn, m, *x);
-        add_blade(plan.shape.dims, plan.mode, blade_of(squares, m), y, am, acc);
+        add_blade(&mut sums, plan.mode, blade_of(squares, m), y);
     }
 }
 

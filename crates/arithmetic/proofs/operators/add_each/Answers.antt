@@ -1,17 +1,18 @@
-use mathlib.Core.Path.{sym, ◌∙◌}
+use mathlib.Core.Path.{refl, sym, ◌∙◌}
 use lib.ListN.{length}
 use Rattle.arithmetic.proofs.OperatorsLaws.{agreed_counts, agreed_room, agreed_sum}
 use Rattle.arithmetic.proofs.operators.add_each.Goals as goal
 
 pub put_sums-requires : goal.put_sums-requires
-put_sums-requires c =
-    let g = sym c.agree.ensures ∙ c.if-not-agree.false in (
-      agreed_counts c.args.op c.args.left c.args.right c.args.a.now c.args.b.now (length c.args.out.now) g c.requires,
-      agreed_room c.args.op c.args.left c.args.right c.args.a.now c.args.b.now (length c.args.out.now) g c.requires,
-    )
+put_sums-requires g c κs within =
+    let e = sym c.agrees.ensures ∙ c.if-not-agrees.false in
+    let r = c.requires.1 in
+    let counts = agreed_counts g.op c.args.left c.args.right c.args.a.now c.args.b.now (length c.args.out.now) e r.1.1 in
+    let room = agreed_room g.op c.args.left c.args.right c.args.a.now c.args.b.now (length c.args.out.now) e r.1.1 in
+    (within, (r.0, (r.1.0, (counts, room))))
 
 pub returns : goal.returns
-returns c =
-    let g = sym c.agree.ensures ∙ c.if-not-agree.false in
-    rw (agreed_sum c.args.op c.args.left c.args.right c.args.a.now c.args.b.now (length c.args.out.now) g c.requires)
-    (record { answered = c.done.ensures; left = c.put_sums.ensures })
+returns g c =
+    let e = sym c.agrees.ensures ∙ c.if-not-agrees.false in
+    rw (agreed_sum g.op c.args.left c.args.right c.args.a.now c.args.b.now (length c.args.out.now) e c.requires.1.1.1)
+    (record { answered = (refl, refl); left = c.put_sums.ensures })

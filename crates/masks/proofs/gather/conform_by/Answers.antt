@@ -25,12 +25,6 @@ returns-then-up-eq0 c =
     c.resize.ensures
     ∙ ap (λ xs. laid xs s.out.now) (conformed_none s.up s.value.dims s.new_dims s.value.numbers.now c.if-up-eq0.true)
 
-pub promote-requires : goal.promote-requires
-promote-requires c =
-    let p = c.requires in
-    let r : 2 ^ (c.args.value.dims + 1) ≤ length c.args.out.now = omega (arith, p.3, ap (λ n. 2 ^ n) c.if-dims-new_dims.true) in
-    (omega (arith, more c.args.up c.args.value.dims c.requires.0 c.if-up-eq0.false c.requires.1), r)
-
 pub returns-then-dims-new_dims : goal.returns-then-dims-new_dims
 returns-then-dims-new_dims c =
     let a = c.args in
@@ -54,9 +48,6 @@ invariant_of-resize c = record {
   small = more c.args.up c.args.value.dims c.requires.0 c.if-up-eq0.false c.requires.1;
   counted = length-take-le _ _ (enough (goal.at.invariant_of-resize c).After-blades) ∙ c.blades.ensures;
 }
-
-pub resize-requires-2 : goal.resize-requires-2
-resize-requires-2 c = (c.requires.2, c.requires.3)
 
 pub returns : goal.returns
 returns c =

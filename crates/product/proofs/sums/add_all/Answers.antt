@@ -1,14 +1,13 @@
-use mathlib.Core.Path.{◌≡◌, refl, sym, ◌∙◌, ap}
+use mathlib.Core.Path.{◌≡◌, refl, sym, ◌∙◌, ap, ap₂}
 use mathlib.Core.Bool.{true, ◌||◌}
 use mathlib.Core.List.{List}
 use mathlib.Core.Logic.{⊎_elim}
 use Prim.Native.Nat.{ℕ, ◌+◌, ◌^◌, ◌≤◌, ◌<◌}
 use native.Mathlib.Omega.{arith}
-use lib.Bits.{xor_lt}
 use lib.Dec.{ltb, eqb}
 use lib.Ieee.{Float}
-use lib.ListN.{length}
 use borrow.Author.Tests.{lt-ltb, le-ltb}
+use Rattle.std.proofs.Common.{Bor}
 use Rattle.masks.proofs.ListLaws.{split}
 use Rattle.product.proofs.Subsets.{before_or_at, neither_before}
 use Rattle.product.proofs.SumsPairs.{pairs_ext, pairs_none, with_pair, pairs_more}
@@ -21,34 +20,37 @@ below_more m k =
     ⊎_elim (λ (l : m < k). le-ltb k (m + 1) (omega arith) ∙ sym (neither_before k m l))
     (λ (l : k ≤ m). lt-ltb k (m + 1) (omega arith) ∙ sym (before_or_at k m l)) (split m k)
 
--- The sums keep their length.
-kept : (c : At-loop-m) → length c.loop-m.acc ≡ 2 ^ c.args.dims
-kept c = c.loop-m.auto.acc ∙ c.requires.3
-
 pub loop-m-init : goal.loop-m-init
 loop-m-init c =
     let a = c.args in
-    sym (pairs_none a.blade a.y a.am.now a.dims c.requires.1 a.acc.now c.requires.3 (λ k. ltb k 0) (λ k l. le-ltb k 0 (omega arith)))
-
-pub add_pair-requires : goal.add_pair-requires
-add_pair-requires c =
-    let a = c.args in
-    let size = kept (goal.at.add_pair-requires c).At-loop-m in
-    let low : c.loop-m.m < 2 ^ a.dims = omega arith in
-    (c.requires.0, low, omega arith, omega (arith, xor_lt a.dims c.loop-m.m a.blade.mask low c.requires.1), refl)
+    let s = a.sums.now in
+    record {
+      same_reference = refl;
+      kept = (refl, refl);
+      added = sym (pairs_none a.blade a.y s.am.now s.dims c.requires s.acc.now s.sized (λ k. ltb k 0) (λ k l. le-ltb k 0 (omega arith)));
+    }
 
 pub loop-m-preserved : goal.loop-m-preserved
 loop-m-preserved c =
     let a = c.args in
+    let s = a.sums.now in
     let m = c.loop-m.m in
-    let low : m < 2 ^ a.dims = omega (arith, c.requires.3) in
-    c.add_pair.ensures
-    ∙ ap (λ (w : List Float). with_pair m a.blade a.y a.am.now w) c.loop-m.invariant
-    ∙ pairs_more a.blade a.y a.am.now a.dims c.requires.1 a.acc.now c.requires.3 (λ k. ltb k m) (λ k. ltb k (m + 1)) m low
-    (le-ltb m m (omega arith)) (λ k h. below_more m k)
+    let i = c.loop-m.invariant in
+    let e = c.add_pair.ensures in
+    let low : m < 2 ^ s.dims = omega (arith, s.sized) in
+    record {
+      same_reference = e.same_reference ∙ i.same_reference;
+      kept = (e.kept.0 ∙ i.kept.0, e.kept.1 ∙ i.kept.1);
+      added =
+          e.added
+          ∙ ap₂ (λ (u v : List Float). with_pair m a.blade a.y u v) (ap (λ (u : Bor (List Float)). u.now) i.kept.1) i.added
+          ∙ pairs_more a.blade a.y s.am.now s.dims c.requires s.acc.now s.sized (λ k. ltb k m) (λ k. ltb k (m + 1)) m low
+          (le-ltb m m (omega arith)) (λ k h. below_more m k);
+    }
 
-pub returns : goal.returns
-returns c =
+pub returns-clause-added : goal.returns-clause-added
+returns-clause-added c =
     let a = c.args in
-    c.loop-m.invariant
-    ∙ pairs_ext a.blade a.y a.am.now a.dims c.requires.1 a.acc.now c.requires.3 (λ k. ltb k c.loop-m.m) (λ k. true) (λ k h. lt-ltb k c.loop-m.m (omega arith))
+    let s = a.sums.now in
+    c.loop-m.invariant.added
+    ∙ pairs_ext a.blade a.y s.am.now s.dims c.requires s.acc.now s.sized (λ k. ltb k c.loop-m.m) (λ k. true) (λ k h. lt-ltb k c.loop-m.m (omega (arith, s.sized)))

@@ -5,4 +5,10 @@ use Rattle.product.specs.inner.Plan.{plan_mask}
 use Rattle.product.proofs.sums.add_blades.Given as goal
 
 abbrev pub invariant-loop-j : goal.invariant-loop-j
-invariant-loop-j l = l.acc ≡ rows_below (2 ^ l.plan.shape.dims) (plan_mask l.plan) l.turn l.plan.mode l.squares l.am l.b l.j
+invariant-loop-j l =
+    let s = l.initial.sums in
+    record {
+      same_reference : l.sums.acc.ghost_name ≡ s.acc.ghost_name;
+      kept : (l.sums.dims ≡ s.dims) × (l.sums.am ≡ s.am);
+      added : l.sums.acc.now ≡ rows_below (2 ^ l.plan.shape.dims) (plan_mask l.plan) l.turn l.plan.mode l.squares s.am.now l.b l.j;
+    }
