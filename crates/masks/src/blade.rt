@@ -57,8 +57,8 @@ impl Shape {
     pub fn get_blade(self, mask: usize, a: &[f64]) -> Result<f64, Refusal>
         ensures { IsAnswer (get_blade self mask a.now).number (get_blade self mask a.now).value result }
     {
+        value_refusal(self.dims, a.len())?;
         let dims = self.dims;
-        value_refusal(dims, a.len())?;
         Ok(coefficient(Coefs { dims, numbers: a }, mask))
     }
 
