@@ -5,11 +5,10 @@ ghost use Rattle.masks.specs.Order.{order};
 ghost use Rattle.masks.specs.Outcome.{laid, nought};
 ghost use Rattle.masks.specs.Shape.{coef, negates, resized, promoted, conformed};
 
-use std::cmp::Ordering;
-
 use super::coefs::Coefs;
 use super::order::{blades, place_of, size_of};
 use super::walk::{grow, shrink};
+use std::cmp::Ordering;
 
 // The coefficient of a mask: +0 for a mask outside.
 pub(crate) fn coefficient(value: Coefs, mask: usize) -> f64

@@ -13,9 +13,6 @@ use Rattle.masks.proofs.blade.put_blade.Goals as goal
 low : (d m : ℕ) (a : List Float) → m < 2 ^ d → length a ≡ 2 ^ d → place d m < length a
 low d m a h e = omega (arith, place_lt d m h)
 
-pub overflow_cast-mask : goal.overflow_cast-mask
-overflow_cast-mask c = omega (arith, blades_le c.args.value.dims c.args.value.small)
-
 pub offset_bounds-out-p : goal.offset_bounds-out-p
 offset_bounds-out-p c =
     let a = c.args in

@@ -27,18 +27,10 @@ enough d count held h c l = omega (arith, blades_le d h)
 chosen : (odd lone dims d : ℕ) (a out : List Float) → (d ≡ 0 → ⊥) → laid (map (coef dims a) (choose odd (order d))) out ≡ laid (map (coef dims a) (half_masks odd lone d)) out
 chosen odd lone dims d a out h = rw (half_masks_lem odd lone d h)
 
-pub bounds-out-0 : goal.bounds-out-0
-bounds-out-0 c = room c.args.d _ c.requires.1
-
 pub returns-then-d-eq0 : goal.returns-then-d-eq0
 returns-then-d-eq0 c =
     set_split c.args.out.now 0 c.coefficient.result (room c.args.d _ c.requires.1)
     ∙ rw (c.coefficient.ensures, lone_mask (odd_of c.args.parity) c.args.lone c.args.d c.if-d-eq0.true)
-
-pub take_half-requires : goal.take_half-requires
-take_half-requires c =
-    let h : 2 ^ (c.args.value.dims - 1) ≤ length c.args.out.now = omega (arith, c.requires.1, ap (λ n. 2 ^ (n - 1)) c.if-d-value.true) in
-    (omega (arith, c.if-d-eq0.false, c.if-d-value.true), h)
 
 pub returns-then-d-value : goal.returns-then-d-value
 returns-then-d-value c =
@@ -55,9 +47,6 @@ slice_bounds-held-end c = enough c.args.d _ _ c.requires.0 c.blades.ensures c.re
 
 pub slice_bounds-numbers-end : goal.slice_bounds-numbers-end
 slice_bounds-numbers-end c = sym (length-take-le _ _ (enough c.args.d _ _ c.requires.0 c.blades.ensures c.read_all.auto.out))
-
-pub take_half-requires-2 : goal.take_half-requires-2
-take_half-requires-2 c = (omega (arith, c.if-d-eq0.false), c.requires.1)
 
 pub invariant_of-take_half : goal.invariant_of-take_half
 invariant_of-take_half c = record {
