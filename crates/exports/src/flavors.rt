@@ -2,25 +2,16 @@
 ghost use Rattle.std.specs.Prelude.{◌≡◌, length};
 ghost use Rattle.masks.specs.Flavor.{metric_of, added_dims};
 ghost use Rattle.masks.specs.Shape.{promotes};
-ghost use Rattle.masks.specs.Outcome.{shape_of};
-ghost use Rattle.masks.specs.ShapeBytes.{shape_from, shape_bytes};
+ghost use Rattle.masks.specs.ShapeBytes.{shape_from};
 ghost use Rattle.masks.specs.Text.{read_flavor, write_flavor};
 ghost use Rattle.exports.specs.Reports.{ReportsFlavor, ReportsList};
 
+use super::faces::flavor_face;
 use super::numbers::{flavor_in, metric_number};
 use super::reports::report;
 use masks::flavor::Flavor;
-use masks::outcome::shape_of;
 use masks::shape::promotion;
-use masks::shape_bytes::shape_bytes;
 use std::convert::identity;
-
-// A flavor as the bytes of the shape of 0 dimensions.
-fn flavor_face(flavor: Flavor) -> [u8; 6]
-    ensures { result ≡ shape_bytes (shape_of 0 flavor) }
-{
-    shape_bytes(shape_of(0, flavor))
-}
 
 // What the basis vector of an index squares to.
 #[unsafe(no_mangle)]

@@ -6,6 +6,7 @@ pub mod blades;
 pub mod build;
 pub mod compare;
 pub mod cues;
+mod faces;
 pub mod flavors;
 mod numbers;
 pub mod operators;

@@ -4,6 +4,7 @@ ghost use Rattle.masks.specs.Shape.{set_dims, set_flavor, conform_to, conform};
 ghost use Rattle.masks.specs.ShapeBytes.{shape_from};
 ghost use Rattle.exports.specs.Reports.{ReportsValue, ReportsPair};
 
+use super::faces::pair_face;
 use super::numbers::flavor_in;
 use super::reports::{report, report_two};
 use masks::shape_bytes::{shape_bytes, shape_from};
@@ -68,10 +69,5 @@ pub extern "C" fn thresholm_conform(
     ensures { ReportsPair (conform (shape_from left.now) (shape_from right.now) a.now b.now (length out.old) (length out_right.old)) result out.old out.new out_right.old out_right.new (to_shape.old, to_shape_right.old) (to_shape.new, to_shape_right.new) }
 {
     let answers = shape_from(left).conform(shape_from(right), a, b, out, out_right);
-    report_two(
-        answers,
-        |(left, right)| (shape_bytes(left), shape_bytes(right)),
-        to_shape,
-        to_shape_right,
-    )
+    report_two(answers, pair_face, to_shape, to_shape_right)
 }

@@ -8,9 +8,9 @@ ghost use Rattle.sheets.specs.Patterns.{numbers_of, patterns_of};
 ghost use Rattle.exports.specs.Reports.{ReportsPlace, ReportsList};
 ghost use Rattle.exports.specs.Sheet.{not_sixes, read_from, write_from, value_from, ReportsSheet};
 
+use super::faces::{place_face, sheet_face};
 use super::reports::{report, report_two};
 use masks::outcome::{MAX_DIMS, Refusal};
-use masks::shape_bytes::shape_bytes;
 use sheets::patterns::{numbers_of, patterns_of};
 use sheets::read::{read, shape_count};
 use sheets::shapes::{shapes_from, shapes_to};
@@ -74,9 +74,8 @@ pub extern "C" fn thresholm_read(
         Ok(sheet) => sheet,
         Err(refusal) => return refusal.number(),
     };
-    let _listed = shapes_to(sheet.shapes, shapes);
-    *to_shapes = sheet.shapes.count;
-    *to_count = sheet.count;
+    let _ = shapes_to(sheet.shapes, shapes);
+    (*to_shapes, *to_count) = sheet_face(sheet);
     0
 }
 
@@ -111,12 +110,7 @@ pub extern "C" fn thresholm_value_at(
         return refusal.number();
     }
     let placed = value_at(shapes_from(shapes), index);
-    report_two(
-        placed,
-        |p| (shape_bytes(p.shape), p.start),
-        to_shape,
-        to_start,
-    )
+    report_two(placed, place_face, to_shape, to_start)
 }
 
 // The numbers of bit patterns, and how many there are.

@@ -10,7 +10,7 @@ ghost use Rattle.arithmetic.specs.Magnitude.{squared_magnitude};
 ghost use Rattle.arithmetic.specs.Scalar.{scalar_test};
 ghost use Rattle.exports.specs.Reports.{ReportsNumber, ReportsTest, ReportsValue, ReportsTaken};
 
-use super::numbers::test_numbers;
+use super::faces::{taken_face, test_face};
 use super::reports::{report, report_three, report_two};
 use arithmetic::dual::{antidual, dual, regressive_product};
 use arithmetic::inverse::inverted;
@@ -157,12 +157,7 @@ pub extern "C" fn thresholm_take_scalar(
     ensures { ReportsTaken (take_scalar (shape_from shape.now) a.now (length out.old)) result out.old out.new (to_shape.old, to_value.old) (to_shape.new, to_value.new) }
 {
     let taken = take_scalar(shape_from(shape), a, out);
-    report_two(
-        taken,
-        |t| (shape_bytes(t.shape), t.value),
-        to_shape,
-        to_value,
-    )
+    report_two(taken, taken_face, to_shape, to_value)
 }
 
 // Scalar with its number (0), planar with a complex pair (1), or neither (2).
@@ -177,5 +172,5 @@ pub extern "C" fn thresholm_scalar_test(
     ensures { ReportsTest (scalar_test (shape_from shape.now) a.now) result (to_test.old, to_re.old ∷ to_im.old ∷ []) (to_test.new, to_re.new ∷ to_im.new ∷ []) }
 {
     let tested = scalar_test(shape_from(shape), a);
-    report_three(tested, test_numbers, to_test, to_re, to_im)
+    report_three(tested, test_face, to_test, to_re, to_im)
 }

@@ -15,10 +15,11 @@ use Rattle.std.specs.Simd.{first_chunks}
 use Rattle.masks.specs.declared.outcome.Refusal.{Refusal}
 use Rattle.masks.specs.declared.outcome.Refusal.TheVariants.{WrongCount, NoRoom}
 use Rattle.masks.specs.Outcome.{refusal, unless, laid, Writes}
+use Rattle.masks.proofs.ListLaws.{get_d_map}
 use Rattle.masks.proofs.OutcomeLaws.{writes_refused, writes_done}
 use Rattle.sheets.specs.Bytes.{from_little_endian, parts}
 use Rattle.sheets.specs.Patterns.{converted, numbers_of, patterns_in, numbers_in}
-use Rattle.sheets.proofs.BytesLaws.{parts_length, chunks_are}
+use Rattle.sheets.proofs.BytesLaws.{parts_length, get_d-parts, chunks_are}
 
 -- a pattern that is no NaN's comes back
 pub pattern_back : (x : ℕ) → x < 2 ^ 64 → T (not (nan_bits binary64 x)) → to_bits binary64 (of_bits binary64 x) ≡ x
@@ -70,6 +71,9 @@ module _ {A B : Type 0} (f : A → B) (xs : List A) (out : List B) where
 
 pub patterns_in_length : (b : List ℕ) → length (patterns_in b) ≡ length b / 8
 patterns_in_length b = length-map (parts 8 (length b / 8) b) from_little_endian ∙ parts_length 8 (length b / 8) b
+
+pub pattern_in : (b : List ℕ) (i : ℕ) → i < length b / 8 → get_or (patterns_in b) i 0 ≡ from_little_endian (take 8 (drop (8 * i) b))
+pattern_in b i h = get_d_map from_little_endian (parts 8 (length b / 8) b) i [] 0 (omega (arith, parts_length 8 (length b / 8) b)) ∙ ap from_little_endian (get_d-parts 8 (length b / 8) b i h)
 
 -- bytes that are not eight to a pattern are refused; others give the numbers of their patterns
 pub in_refused : (b : List ℕ) (out : List Float) → (length b % 8 ≡ 0 → ⊥) → Writes (numbers_in b (length out)) (Err WrongCount) out out

@@ -16,4 +16,5 @@ returns-in-Err c =
 pub returns : goal.returns
 returns c =
     let a = c.args in
-    sheet_reported a.bytes.now c.in-Ok.sheet _ (omega (arith, c.shape_count.ensures, c.if-shapes-shape_count.false)) c.in-Ok.ensures c.shapes_to-listed.ensures
+    let reported = sheet_reported a.bytes.now c.in-Ok.sheet _ (omega (arith, c.shape_count.ensures, c.if-shapes-shape_count.false)) c.in-Ok.ensures c.shapes_to.ensures in
+    rw c.sheet_face.ensures reported

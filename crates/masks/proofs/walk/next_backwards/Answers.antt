@@ -6,7 +6,6 @@ use lib.Bits.{bit_and, and_le_l}
 use lib.Count.{count_trailing_zeros}
 use lib.Pow.{shr_le}
 use Rattle.masks.proofs.ListLaws.{split}
-use Rattle.masks.proofs.OrderLaws.{blades_le}
 use Rattle.masks.proofs.OrderBackwards.{lowest_within, next_first, next_others}
 use Rattle.masks.proofs.walk.next_backwards.Goals.{Start}
 use Rattle.masks.proofs.walk.next_backwards.Goals as goal

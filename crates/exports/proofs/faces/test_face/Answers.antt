@@ -2,7 +2,7 @@ use mathlib.Core.Path.{◌≡◌, refl}
 use lib.Ieee.{binary64, of_bits}
 use Rattle.masks.specs.Outcome.{nought}
 use Rattle.exports.specs.Numbers.{test_number, real_part, imaginary_part}
-use Rattle.exports.proofs.numbers.test_numbers.Goals as goal
+use Rattle.exports.proofs.faces.test_face.Goals as goal
 
 -- The literal 0.0 is +0.
 zero_literal : of_bits binary64 0 ≡ nought
