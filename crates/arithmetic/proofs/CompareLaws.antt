@@ -1,6 +1,6 @@
 -- What the reference's == and `cmp` do that equality and order don't, and what their proofs cite. Assumes nothing.
 use mathlib.Core.Path.{◌≡◌, refl, sym, ap, ap₂, ◌∙◌}
-use mathlib.Core.Bool.{Bool, beq, true, false, ◌&&◌, ◌||◌, false≢true}
+use mathlib.Core.Bool.{Bool, beq, true, false, ◌&&◌, ◌||◌, cond, false≢true}
 use mathlib.Core.List.{List, [], ◌∷◌}
 use mathlib.Core.Logic.{◌⊎◌, ⊎_elim, inl, inr}
 use Prim.Native.Nat.{ℕ, zero, suc, ◌+◌, ◌-◌, ◌*◌, ◌^◌, ◌≤◌, ◌<◌}
@@ -8,30 +8,24 @@ use native.Mathlib.Nat.{suc_inj, suc-mul, zero-mul}
 use native.Mathlib.Numerals.{add-one}
 use native.Mathlib.Omega.{arith}
 use lib.Dec.{eqb}
-use lib.Ieee.{Float, nan, inf, fin, up, down, level, below, eq, ne, lt, is_nan}
+use lib.Ieee.{Float, nan, inf, fin, up, down, level, below, eq, lt, is_nan}
 use lib.IntN.{ℤ, pos, negsuc}
 use lib.ListN.{length, get_or, drop, length-drop, drop_of_length-le}
 use lib.Pow.{pow_pos}
 use lib.Seq.{drop-cons, drop-drop}
-use borrow.Author.Tests.{eq-eqb, ne_eqb, eqb-true, eqb-false, le-ltb, not-false}
+use borrow.Author.Tests.{ne_eqb, eqb-true, eqb-false, le-ltb, not-false}
 use Rattle.masks.specs.declared.flavor.Flavor.TheVariants.{Vanilla}
 use Rattle.masks.specs.declared.shape.Shape.{Shape}
 use Rattle.masks.specs.Outcome.{refusal, too_many, wrong_count, unless, shape_of, nought}
 use Rattle.masks.proofs.OutcomeLaws.{past, unless_done}
+use Rattle.std.specs.Prelude.{Option, None, Some}
+use Rattle.std.specs.Option.{unwrap_or, is_some}
+use Rattle.std.specs.Ordering.{float_partial_cmp}
 use Rattle.std.specs.declared.cmp.Ordering.{Ordering}
 use Rattle.std.specs.declared.cmp.Ordering.TheVariants.{Less, Equal, Greater}
 use Rattle.arithmetic.specs.Scalar.{is_zero, all_zero, is_scalar, is_planar, test_of, if_scalar}
 use Rattle.arithmetic.specs.Compare.{compared_tests, answers_agree, same_number, same_places, refused_yes_no, equals, compared_nans, compared_numbers, or_else, compared_places, compared_counts, compared_lists, compared_by, compared}
 use Rattle.arithmetic.proofs.ScalarLaws.{and_both, if_scalar_lem, if_other}
-
--- NaN is the one number that doesn't equal itself.
-pub ne_self : (x : Float) → ne x x ≡ is_nan x
-unfolding ne eq is_nan
-ne_self nan = refl
-ne_self (inf true) = refl
-ne_self (inf false) = refl
-ne_self (fin true m e) = rw (eq-eqb (m * up e * down e) (m * up e * down e) refl)
-ne_self (fin false m e) = rw (eq-eqb (m * up e * down e) (m * up e * down e) refl)
 
 -- ---- numbers that are equal
 
@@ -113,6 +107,37 @@ equal_compared (fin s m e) (inf t) q = absurd (false≢true q)
 equal_compared (fin s m e) (fin t n d) q =
     let z = below_level s t (m * up e * down d) (n * up d * down e) q in
     rw (z.0, z.1)
+
+-- Numbers compare as Rust's partial order has them, and where it has none as NaN does.
+module _ (x y : Float) where
+  pub ordered : (o : Ordering) → float_partial_cmp x y ≡ Some o → compared_numbers x y ≡ o
+  unfolding compared_numbers
+  ordered o h = go (lt x y) (eq x y) (lt y x) refl refl refl h
+    where
+      given : {p q : Ordering} → Some p ≡ Some q → p ≡ q
+      given e = ap (λ (t : Option Ordering). unwrap_or t Equal) e
+
+      go : (l e g : Bool) → lt x y ≡ l → eq x y ≡ e → lt y x ≡ g → cond l (Some Less) (cond e (Some Equal) (cond g (Some Greater) None)) ≡ Some o → cond (lt x y) Less (cond (lt y x) Greater (compared_nans x y)) ≡ o
+      go true e g p q r f = rw p (given f)
+      go false true g p q r f = equal_compared x y q ∙ given f
+      go false false true p q r f = rw (p, r) (given f)
+      go false false false p q r f = absurd (none f)
+        where
+          none : None ≡ Some o → ⊥
+          none e = false≢true (ap is_some e)
+
+  pub unordered : float_partial_cmp x y ≡ None → compared_numbers x y ≡ compared_nans x y
+  unfolding compared_numbers
+  unordered h = go (lt x y) (eq x y) (lt y x) refl refl h
+    where
+      some : {o : Ordering} → Some o ≡ None → ⊥
+      some e = false≢true (sym (ap is_some e))
+
+      go : (l e g : Bool) → lt x y ≡ l → lt y x ≡ g → cond l (Some Less) (cond e (Some Equal) (cond g (Some Greater) None)) ≡ None → cond (lt x y) Less (cond (lt y x) Greater (compared_nans x y)) ≡ compared_nans x y
+      go true e g p r f = absurd (some f)
+      go false true g p r f = absurd (some f)
+      go false false true p r f = absurd (some f)
+      go false false false p r f = rw (p, r)
 
 -- ---- places
 

@@ -20,11 +20,12 @@ fn compare_refusal(left: Shape, right: Shape, a: &[f64], b: &[f64]) -> Result<()
     pair_refusal(left.dims, right.dims, left.dims, a.len(), b.len(), 512)
 }
 
-// NaN is the one number that doesn't equal itself.
+// NaN is equal to NaN.
+#[tactic(auto, unfolding(crate::specs::Compare::same_number))]
 fn same_number(x: f64, y: f64) -> bool
     ensures { result ≡ same_number x y }
 {
-    x == y || (x != x && y != y)
+    x == y || (x.is_nan() && y.is_nan())
 }
 
 // Whether two scalars are equal: of one count NaN is equal to NaN.
@@ -72,28 +73,16 @@ pub fn eq(left: Shape, right: Shape, a: &[f64], b: &[f64]) -> Result<bool, Refus
 fn compare_nan(x: f64, y: f64) -> Ordering
     ensures { result ≡ compared_nans x y }
 {
-    if x != x {
-        if y != y {
-            return Ordering::Equal;
-        }
-        return Ordering::Greater;
-    }
-    if y != y {
-        return Ordering::Less;
-    }
-    Ordering::Equal
+    x.is_nan().cmp(&y.is_nan())
 }
 
 fn compare_numbers(x: f64, y: f64) -> Ordering
     ensures { result ≡ compared_numbers x y }
 {
-    if x < y {
-        return Ordering::Less;
+    match x.partial_cmp(&y) {
+        Some(order) => order,
+        None => compare_nan(x, y),
     }
-    if y < x {
-        return Ordering::Greater;
-    }
-    compare_nan(x, y)
 }
 
 // The places from `first` on: the first that differs decides.

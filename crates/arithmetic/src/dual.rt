@@ -24,15 +24,7 @@ fn put_dual_in<const N: usize>(given: &[u16], shape: Shape, a: &[f64], out: &mut
     let vanilla = shape.with_flavor(Flavor::Vanilla);
     let mut unit = [0.0; N];
     let _ = pseudoscalar(shape.dims, 1.0, Flavor::Vanilla, &mut unit);
-    let _ = multiply(
-        given,
-        Mode::All,
-        vanilla,
-        vanilla,
-        a,
-        &unit[..a.len()],
-        out,
-    );
+    let _ = multiply(given, Mode::All, vanilla, vanilla, a, &unit[..a.len()], out);
 }
 
 // The same, in an array as long as the dimensions want.
@@ -178,7 +170,13 @@ fn regressive_joined(
 }
 
 // The same, with the orders of both values' dimensions, one where they are the same. Each is built here, once.
-fn put_regressive(left: Shape, right: Shape, a: &[f64], b: &[f64], out: &mut [f64]) -> Result<Shape, Refusal>
+fn put_regressive(
+    left: Shape,
+    right: Shape,
+    a: &[f64],
+    b: &[f64],
+    out: &mut [f64],
+) -> Result<Shape, Refusal>
     requires dims_bound { (left.dims ≤ 9) × (right.dims ≤ 9) × (meeting_dims left right ≤ 9) }
     requires a_len { (length a.now ≡ 2 ^ left.dims) × (length b.now ≡ 2 ^ right.dims) × (2 ^ meeting_dims left right ≤ length out.old) }
     ensures { Gives (regressive_product left right a.now b.now (length out.old)) result out.old out.new }

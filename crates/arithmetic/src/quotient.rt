@@ -40,14 +40,7 @@ fn mul_inverse_in<const N: usize>(
     let mut inverse = [0.0; N];
     put_order(right.dims, &mut order).unwrap();
     put_inverse(&order[..b.len()], right, b, &mut inverse);
-    mul_by(
-        &order[..b.len()],
-        left,
-        right,
-        a,
-        &inverse[..b.len()],
-        out,
-    )
+    mul_by(&order[..b.len()], left, right, a, &inverse[..b.len()], out)
 }
 
 // The same, in arrays as long as the dimensions want.

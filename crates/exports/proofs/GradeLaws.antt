@@ -1,20 +1,13 @@
--- The size of a grade, and that what is reported of a grade is where its part of the value is. Assumes nothing.
+-- What is reported of a grade is where its part of the value is. Assumes nothing.
 use mathlib.Core.Path.{◌≡◌, refl}
 use mathlib.Core.List.{List, []}
-use Prim.Native.Nat.{ℕ, ◌≤◌}
-use borrow.Author.Tests.{le-ltb}
+use Prim.Native.Nat.{ℕ}
 use lib.Ieee.{Float}
 use lib.ListN.{take, drop}
 use Rattle.masks.specs.declared.shape.Shape.{Shape}
-use Rattle.masks.specs.Order.{size, start, grade_size}
-use Rattle.masks.specs.Outcome.{refusal, unless}
+use Rattle.masks.specs.Order.{size, start}
 use Rattle.masks.specs.Blade.{grade_refusal, grade_part}
 use Rattle.masks.proofs.OutcomeLaws.{unless_done}
-
--- The count is the size where the dimensions are not refused.
-pub size_counted : (d g : ℕ) → d ≤ 9 → (grade_size d g).count ≡ size d g
-unfolding grade_size unless refusal
-size_counted d g h = rw (le-ltb 9 d h)
 
 -- The part of an accepted grade stands where the grade starts, and has as many numbers as its size.
 pub grade_part_lem : (s : Shape) (g : ℕ) (a : List Float) → grade_refusal s g a ≡ 0 → grade_part s g a ≡ take (size s.dims g) (drop (start s.dims g) a)

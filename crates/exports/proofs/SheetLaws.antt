@@ -12,26 +12,28 @@ use lib.ListN.{length, get_or}
 use lib.Seq.{get_or-drop}
 use Rattle.masks.specs.declared.flavor.Flavor.TheVariants.{Vanilla}
 use Rattle.masks.specs.declared.shape.Shape.{Shape}
-use Rattle.masks.specs.declared.outcome.Count.{Count}
-use Rattle.masks.specs.Outcome.{Test, Written, Writes, refusal, unless, shape_of, no_room, refused_list, listed, laid}
+use Rattle.std.specs.Prelude.{Result, Ok, Err}
+use Rattle.masks.specs.declared.outcome.Refusal.{Refusal}
+use Rattle.masks.specs.Outcome.{Test, Written, Writes, refusal, number_of, unless, shape_of, no_room, refused_list, listed, laid}
 use Rattle.masks.specs.ShapeBytes.{shape_bytes, shape_from}
 use Rattle.masks.proofs.ListLaws.{split}
-use Rattle.masks.proofs.OutcomeLaws.{past, rest_same, refused_later, unless_refused, unless_number}
+use Rattle.masks.proofs.OutcomeLaws.{past, rest_same, refused_later, unless_refused, unless_err, unless_number, refuses}
 use Rattle.masks.proofs.ShapeBytesLaws.{shape_bytes-length}
 use Rattle.sheets.specs.declared.read.SheetRead.{SheetRead}
 use Rattle.sheets.specs.Bytes.{all_bytes}
 use Rattle.sheets.specs.Format.{any_above_nine, above_nine, limits, sheet_bytes}
 use Rattle.sheets.specs.Read.{said, is_sheet_bytes, malformed, ReadOutcome, refused_sheet, a_sheet, read_sheet_tests, read_sheet, Reads}
 use Rattle.sheets.specs.Shapes.{shapes_of, said_shapes, shape_list}
-use Rattle.sheets.specs.Values.{value_at_tests, value_at, placed_at, refused_place}
+use Rattle.sheets.specs.Values.{value_at_tests, value_at, PlaceOutcome, placed_at, refused_place}
 use Rattle.sheets.specs.Write.{write_sheet}
 use Rattle.sheets.proofs.BytesLaws.{all_bytes-length}
 use Rattle.sheets.proofs.FormatLaws.{above_take, sheet_within}
 use Rattle.sheets.proofs.ShapesLaws.{listed_first, listed-shapes_of, said_shapes-at, list_whole}
 use Rattle.sheets.proofs.ReadLaws.{shapes_count, well_formed}
 use Rattle.sheets.proofs.RoundTrips.{sound, written_of_read, list_back}
-use Rattle.exports.specs.Sheet.{not_sixes, write_from_tests, write_from, sheet_from, first_shapes, value_from_tests, value_from, read_from_tests, read_from, ReportsCounts, ReportsSheet}
-use Rattle.exports.proofs.ReportsLaws.{kept_reported}
+use Rattle.exports.specs.Reports.{ReportsPlace, ReportsList}
+use Rattle.exports.specs.Sheet.{not_sixes, write_from_tests, write_from, sheet_from, first_shapes, value_from_tests, value_from, read_from_tests, read_from, ReportsSheet}
+use Rattle.exports.proofs.ReportsLaws.{kept_reported, refused_reported, done_reported}
 
 -- ---- what bytes say of the dimensions
 
@@ -76,21 +78,29 @@ list_number : (b : List ℕ) → refusal (list_tests b) ≡ one_or_two (any_abov
 unfolding refusal
 list_number b = refl
 
-module _ (b : List ℕ) (n : ℕ) (e : n ≡ refusal (list_tests b)) (h : n ≡ 0 → ⊥) where
+module _ (b : List ℕ) (e : Refusal) (g : refusal (list_tests b) ≡ number_of e) where
   refused : one_or_two (any_above_nine (said_shapes 6 b)) (not_sixes b).fails ≡ 0 → ⊥
-  refused z = h (e ∙ list_number b ∙ z)
+  refused z = refuses e (sym g ∙ list_number b ∙ z)
 
-  pub write_refused : (xs : List ℕ) (room : ℕ) → refused_list n ≡ write_from b xs room
+  write_refused : (xs : List ℕ) (room : ℕ) → refused_list (number_of e) ≡ write_from b xs room
   unfolding write_from
   write_refused xs room =
-      let s : refusal (write_from_tests b xs room) ≡ n = one_or_two_lem (any_above_nine (said_shapes 6 b)) _ _ _ (not_sixes b).fails _ refused ∙ sym (e ∙ list_number b) in
-      sym (unless_refused refused_list (refusal (write_from_tests b xs room)) n (listed (sheet_bytes (sheet_from b xs))) (sym s) h)
+      let s : refusal (write_from_tests b xs room) ≡ number_of e = one_or_two_lem (any_above_nine (said_shapes 6 b)) _ _ _ (not_sixes b).fails _ refused ∙ sym (list_number b) ∙ g in
+      sym (unless_err refused_list (refusal (write_from_tests b xs room)) e (listed (sheet_bytes (sheet_from b xs))) s)
 
-  pub value_refused : (i : ℕ) → refused_place n ≡ value_from b i
+  value_refused : (i : ℕ) → refused_place (number_of e) ≡ value_from b i
   unfolding value_from
   value_refused i =
-      let s : refusal (value_from_tests b i) ≡ n = first_or_two (any_above_nine (said_shapes 6 b)) _ _ (not_sixes b).fails (above_take 64 (said_shapes 6 b)) refused ∙ sym (e ∙ list_number b) in
-      sym (unless_refused refused_place (refusal (value_from_tests b i)) n (placed_at (first_shapes b) i) (sym s) h)
+      let s : refusal (value_from_tests b i) ≡ number_of e = first_or_two (any_above_nine (said_shapes 6 b)) _ _ (not_sixes b).fails (above_take 64 (said_shapes 6 b)) refused ∙ sym (list_number b) ∙ g in
+      sym (unless_err refused_place (refusal (value_from_tests b i)) e (record { number = 0; place = placed_at (first_shapes b) i }) s)
+
+  -- The number is returned, and nothing is reported.
+  pub write_kept : (n : ℕ) (xs out : List ℕ) (held : ℕ) → n ≡ number_of e → ReportsList (write_from b xs (length out)) n out out held held
+  write_kept n xs out held q =
+      subst (λ (o : Written ℕ). ReportsList o n out out held held) (write_refused xs (length out)) (record { reports = refused_reported (number_of e) e n refl q; left = refl })
+
+  pub value_kept : (n i : ℕ) (held : List ℕ × ℕ) → n ≡ number_of e → ReportsPlace (value_from b i) n held held
+  value_kept n i held q = subst (λ (o : PlaceOutcome). ReportsPlace o n held held) (value_refused i) (refused_reported (number_of e) e n refl q)
 
 -- ---- a list that is not: the record that is made of it is handed on
 
@@ -104,8 +114,8 @@ module _ (b : List ℕ) (e : refusal (list_tests b) ≡ 0) where
   pub value_done : (i : ℕ) → value_at (shapes_of (said_shapes 6 b)) i ≡ value_from b i
   unfolding value_at value_from
   value_done i =
-      ap (λ (ss : List Shape). unless refused_place (refusal (value_at_tests ss i)) (placed_at ss i)) (listed_first (said_shapes 6 b))
-      ∙ ap (λ (k : ℕ). unless refused_place k (placed_at (first_shapes b) i)) (sym (refused_later _ _ small ∙ rest_same (value_at_tests (first_shapes b) i) (not_sixes b ∷ []) [] (λ q. refused_later (not_sixes b) [] sixes)))
+      ap (λ (ss : List Shape). unless refused_place (refusal (value_at_tests ss i)) (record { number = 0; place = placed_at ss i })) (listed_first (said_shapes 6 b))
+      ∙ ap (λ (k : ℕ). unless refused_place k (record { number = 0; place = placed_at (first_shapes b) i })) (sym (refused_later _ _ small ∙ rest_same (value_at_tests (first_shapes b) i) (not_sixes b ∷ []) [] (λ q. refused_later (not_sixes b) [] sixes)))
 
   -- Of no more than 64 shapes all are listed.
   few_written : (xs : List ℕ) (room : ℕ) → length (said_shapes 6 b) ≤ 64 → write_sheet (shapes_of (said_shapes 6 b)) xs room ≡ write_from b xs room
@@ -148,27 +158,27 @@ unfolding refusal
 read_short b shapes out r h e =
     read_refused b shapes out r (e ∙ sym (rw (lt-ltb (length shapes) (6 * length (said b).shapes) h))) (λ z. short_number (not (is_sheet_bytes b)) (sym e ∙ z))
 
--- Whether bytes are malformed is told with room for one pattern too.
-nine_told : (t u : Bool) → refusal (record { fails = not t; number = 9 } ∷ record { fails = u; number = 3 } ∷ []) ≡ 9 → 9 ≡ refusal (record { fails = not t; number = 9 } ∷ record { fails = true; number = 3 } ∷ [])
-unfolding refusal
-nine_told true true e = absurd (omega (arith, e))
-nine_told true false e = absurd (omega (arith, e))
-nine_told false u e = refl
-
-three_told : (t u : Bool) → (refusal (record { fails = not t; number = 9 } ∷ record { fails = u; number = 3 } ∷ []) ≡ 9 → ⊥) → 3 ≡ refusal (record { fails = not t; number = 9 } ∷ record { fails = true; number = 3 } ∷ [])
-unfolding refusal
-three_told true u h = refl
-three_told false u h = absurd (h refl)
-
 tried_number : (b : List ℕ) (room : ℕ) → (read_sheet b room).number ≡ refusal (read_sheet_tests b room)
 unfolding read_sheet
 tried_number b room = unless_number (λ (o : ReadOutcome). o.number) refused_sheet (refusal (read_sheet_tests b room)) (a_sheet (said b)) refl refl
 
-pub short_nine : (b : List ℕ) (r : ℕ) → r ≡ (read_sheet b 1).number → r ≡ 9 → 9 ≡ refusal (short_tests b)
-short_nine b r e h = nine_told (is_sheet_bytes b) (ltb 1 (length (said b).patterns)) (sym (e ∙ tried_number b 1) ∙ h)
+-- Whether bytes are malformed is told with room for one pattern too.
+told : (t u : Bool) (n : ℕ) → (n ≡ 0 → ⊥) → refusal (record { fails = not t; number = 9 } ∷ record { fails = u; number = 3 } ∷ []) ≡ n → n ≡ refusal (record { fails = not t; number = 9 } ∷ record { fails = true; number = 3 } ∷ [])
+unfolding refusal
+told true true n z e = sym e
+told true false n z e = absurd (z (sym e))
+told false u n z e = sym e
 
-pub short_three : (b : List ℕ) (r : ℕ) → r ≡ (read_sheet b 1).number → (r ≡ 9 → ⊥) → 3 ≡ refusal (short_tests b)
-short_three b r e h = three_told (is_sheet_bytes b) (ltb 1 (length (said b).patterns)) (λ z. h (e ∙ tried_number b 1 ∙ z))
+pub short_err : (b : List ℕ) (e : Refusal) → (read_sheet b 1).number ≡ number_of e → number_of e ≡ refusal (short_tests b)
+short_err b e h = told (is_sheet_bytes b) (ltb 1 (length (said b).patterns)) (number_of e) (refuses e) (sym (tried_number b 1) ∙ h)
+
+untold : (t u : Bool) → refusal (record { fails = not t; number = 9 } ∷ record { fails = u; number = 3 } ∷ []) ≡ 0 → 3 ≡ refusal (record { fails = not t; number = 9 } ∷ record { fails = true; number = 3 } ∷ [])
+unfolding refusal
+untold true u e = refl
+untold false u e = absurd (omega (arith, e))
+
+pub short_ok : (b : List ℕ) → (read_sheet b 1).number ≡ 0 → 3 ≡ refusal (short_tests b)
+short_ok b h = untold (is_sheet_bytes b) (ltb 1 (length (said b).patterns)) (sym (tried_number b 1) ∙ h)
 
 -- Where the list has room, only the patterns' room is left to test.
 from_read : (b : List ℕ) (roomShapes room : ℕ) → 6 * length (said b).shapes ≤ roomShapes → read_sheet b room ≡ read_from b roomShapes room
@@ -179,7 +189,7 @@ from_read b roomShapes room h = rw (le-ltb roomShapes (6 * length (said b).shape
 few_shapes : (b : List ℕ) (roomShapes room k : ℕ) → 6 * length (said b).shapes ≤ roomShapes → k ≡ refusal (read_sheet_tests b room) → (length (unless refused_sheet k (a_sheet (said b))).sheet.shapes ≤ 64) × (6 * length (unless refused_sheet k (a_sheet (said b))).sheet.shapes ≤ roomShapes)
 unfolding unless
 few_shapes b roomShapes room zero h e =
-    let t = not-false _ (past (malformed b) _ (λ q. omega arith) (sym e)).0 in
+    let t : is_sheet_bytes b ≡ true = not-false _ (past (malformed b) _ (λ q. omega arith) (sym e)).0 in
     (omega (arith, shapes_count b, (well_formed b t).few), h)
 few_shapes b roomShapes room (suc k) h e = (omega arith, omega arith)
 
@@ -187,15 +197,31 @@ few_read : (b : List ℕ) (roomShapes room : ℕ) → 6 * length (said b).shapes
 unfolding read_sheet
 few_read b roomShapes room h = few_shapes b roomShapes room (refusal (read_sheet_tests b room)) h refl
 
--- What is read of bytes is reported, and its shapes are listed.
-pub sheet_reported : (b : List ℕ) {s : SheetRead} {n : Count} {r : ℕ} {beforeShapes afterShapes before after held holds : List ℕ} → 6 * length (said b).shapes ≤ length beforeShapes → Reads (read_sheet b (length before)) s before after → Writes (shape_list s.shapes (length beforeShapes)) n beforeShapes afterShapes → ReportsCounts s r held holds → ReportsSheet (read_from b (length beforeShapes) (length before)) r beforeShapes afterShapes before after held holds
-sheet_reported b {s} {n} {r} {beforeShapes} {afterShapes} {before} {after} {held} {holds} h g w reported =
+-- A refused sheet has no shapes.
+no_shapes : (b : List ℕ) (room : ℕ) (e : Refusal) → (read_sheet b room).number ≡ number_of e → (read_sheet b room).sheet.shapes ≡ []
+unfolding read_sheet
+no_shapes b room e h = ap (λ (o : ReadOutcome). o.sheet.shapes) (unless_err refused_sheet (refusal (read_sheet_tests b room)) e (a_sheet (said b)) (sym (tried_number b room) ∙ h))
+
+-- What is read of bytes is reported where it is refused ..
+pub sheet_refused : (b : List ℕ) (e : Refusal) (n : ℕ) {beforeShapes before after held : List ℕ} → 6 * length (said b).shapes ≤ length beforeShapes → Reads (read_sheet b (length before)) (Err e) before after → n ≡ number_of e → ReportsSheet (read_from b (length beforeShapes) (length before)) n beforeShapes beforeShapes before after held held
+unfolding all_bytes
+sheet_refused b e n {beforeShapes} {before} {after} {held} h g q =
+    subst (λ (o : ReadOutcome). ReportsSheet o n beforeShapes beforeShapes before after held held) (from_read b (length beforeShapes) (length before) h)
+    (record {
+      reports = refused_reported (read_sheet b (length before)).number e n g.answered q;
+      shapes = rw (no_shapes b (length before) e g.answered) refl;
+      left = g.left;
+    })
+
+-- .. and where it is not, and its shapes are listed.
+pub sheet_reported : (b : List ℕ) (s : SheetRead) (n : Result ℕ Refusal) {beforeShapes afterShapes before after held : List ℕ} → 6 * length (said b).shapes ≤ length beforeShapes → Reads (read_sheet b (length before)) (Ok s) before after → Writes (shape_list s.shapes (length beforeShapes)) n beforeShapes afterShapes → ReportsSheet (read_from b (length beforeShapes) (length before)) 0 beforeShapes afterShapes before after held (s.shapes.count ∷ s.count ∷ [])
+sheet_reported b s n {beforeShapes} {afterShapes} {before} {after} {held} h g w =
     let o = read_sheet b (length before) in
     let few = few_read b (length beforeShapes) (length before) h in
-    let listing = ap (λ (a : SheetRead). shape_list a.shapes (length beforeShapes)) g.answered ∙ list_whole o.sheet.shapes (length beforeShapes) few.0 few.1 in
-    subst (λ (q : ReadOutcome). ReportsSheet q r beforeShapes afterShapes before after held holds) (from_read b (length beforeShapes) (length before) h)
+    let listing = ap (λ (a : SheetRead). shape_list a.shapes (length beforeShapes)) g.answered.1 ∙ list_whole o.sheet.shapes (length beforeShapes) few.0 few.1 in
+    subst (λ (q : ReadOutcome). ReportsSheet q 0 beforeShapes afterShapes before after held (s.shapes.count ∷ s.count ∷ [])) (from_read b (length beforeShapes) (length before) h)
     (record {
-      reports = subst (λ (a : SheetRead). ReportsCounts a r held holds) g.answered reported;
+      reports = done_reported o.number g.answered.0 (ap (λ (a : SheetRead). a.shapes.count ∷ a.count ∷ []) g.answered.1);
       shapes = w.left ∙ ap (λ (l : Written ℕ). laid l.items beforeShapes) listing;
       left = g.left;
     })

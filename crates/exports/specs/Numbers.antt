@@ -1,8 +1,8 @@
 -- The version, and answers as numbers. Assumes nothing.
 use Rattle.std.specs.Prelude.{Bool, cond, ℕ, Float, ℤ, pos, negsuc}
 use Rattle.masks.specs.Outcome.{nought}
-use Rattle.arithmetic.specs.declared.outcome.Ordering.{Ordering}
-use Rattle.arithmetic.specs.declared.outcome.Ordering.TheVariants.{Less, Equal, Greater}
+use Rattle.std.specs.declared.cmp.Ordering.{Ordering}
+use Rattle.std.specs.declared.cmp.Ordering.TheVariants.{Less, Equal, Greater}
 use Rattle.arithmetic.specs.declared.scalar.ScalarTest.{ScalarTest}
 use Rattle.arithmetic.specs.declared.scalar.ScalarTest.TheVariants.{Scalar, Planar, Neither}
 
@@ -15,7 +15,7 @@ abbrev pub yes_number : Bool → ℕ
 yes_number b = cond b 1 0
 
 -- Less is -1, equal 0 and greater 1.
-unfoldable pub order_number : Ordering → ℤ
+abbrev pub order_number : Ordering → ℤ
 order_number Less = negsuc 0
 order_number Equal = pos 0
 order_number Greater = pos 1

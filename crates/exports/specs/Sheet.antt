@@ -3,13 +3,11 @@ use Rattle.std.specs.Prelude.{◌≡◌, not, List, [], ◌∷◌, ◌++◌, ℕ
 use Rattle.masks.specs.declared.shape.Shape.{Shape}
 use Rattle.masks.specs.Outcome.{Test, Written, refusal, no_room, unless, refused_list, listed, laid}
 use Rattle.masks.specs.ShapeBytes.{shape_bytes}
-use Rattle.sheets.specs.declared.values.Placed.{Placed}
-use Rattle.sheets.specs.declared.read.SheetRead.{SheetRead}
 use Rattle.sheets.specs.Bytes.{all_bytes}
 use Rattle.sheets.specs.Format.{Sheet, sheet_bytes, above_nine, limits}
-use Rattle.sheets.specs.Read.{said, malformed, ReadOutcome, refused_sheet, a_sheet, read_of}
+use Rattle.sheets.specs.Read.{said, malformed, ReadOutcome, refused_sheet, a_sheet}
 use Rattle.sheets.specs.Shapes.{said_shapes}
-use Rattle.sheets.specs.Values.{value_at_tests, placed_at, refused_place}
+use Rattle.sheets.specs.Values.{value_at_tests, PlaceOutcome, placed_at, refused_place}
 use Rattle.exports.specs.Reports.{Reports}
 
 -- 2: The length is not a multiple of six.
@@ -39,8 +37,8 @@ first_shapes b = take 64 (said_shapes 6 b)
 abbrev pub value_from_tests : List ℕ → ℕ → List Test
 value_from_tests b i = above_nine (said_shapes 6 b) ∷ value_at_tests (first_shapes b) i ++ (not_sixes b ∷ [])
 
-unfoldable pub value_from : List ℕ → ℕ → Placed
-value_from b i = unless refused_place (refusal (value_from_tests b i)) (placed_at (first_shapes b) i)
+unfoldable pub value_from : List ℕ → ℕ → PlaceOutcome
+value_from b i = unless refused_place (refusal (value_from_tests b i)) (record { number = 0; place = placed_at (first_shapes b) i })
 
 -- ---- a sheet that is read
 
@@ -51,12 +49,8 @@ read_from_tests b roomShapes room = malformed b ∷ no_room roomShapes (6 * leng
 unfoldable pub read_from : List ℕ → ℕ → ℕ → ReadOutcome
 read_from b roomShapes room = unless refused_sheet (refusal (read_from_tests b roomShapes room)) (a_sheet (said b))
 
--- How many shapes and how many patterns there are is reported.
-abbrev pub ReportsCounts : SheetRead → ℕ → List ℕ → List ℕ → Type 0
-ReportsCounts o = Reports o.number (o.shapes.count ∷ o.count ∷ [])
-
--- The shapes are in one output, six bytes each, and the patterns in the other.
+-- How many shapes and how many patterns there are is reported; the shapes are in one output, six bytes each, and the patterns in the other.
 pub record ReportsSheet (o : ReadOutcome) (r : ℕ) (beforeShapes afterShapes before after held holds : List ℕ) : Type 0 where
-  pub reports : ReportsCounts (read_of o) r held holds
+  pub reports : Reports o.number (length o.sheet.shapes ∷ length o.sheet.patterns ∷ []) r held holds
   pub shapes : afterShapes ≡ laid (all_bytes shape_bytes o.sheet.shapes) beforeShapes
   pub left : after ≡ laid o.sheet.patterns before

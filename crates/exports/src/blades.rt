@@ -5,19 +5,10 @@ ghost use Rattle.masks.specs.Blade.{get_blade, set_blade, grade_refusal};
 ghost use Rattle.masks.specs.ShapeBytes.{shape_from};
 ghost use Rattle.exports.specs.Reports.{Reports, ReportsNumber, ReportsValue};
 
-use super::reports::{report, report_number};
-use masks::order::grade_size;
-use masks::outcome::DONE;
-use masks::shape_bytes::shape_from;
-
-// The size of a grade of dims that are at most 9.
-fn size_of(dims: u8, grade: u8) -> usize
-    requires { dims ≤ 9 }
-    ensures { result ≡ size dims grade }
-{
-    let size = grade_size(dims, grade);
-    size.count
-}
+use super::reports::report;
+use masks::order::size_or_none;
+use masks::shape_bytes::{shape_bytes, shape_from};
+use std::convert::identity;
 
 // The place at which a grade starts.
 fn start_of(dims: u8, grade: u8) -> usize
@@ -25,10 +16,8 @@ fn start_of(dims: u8, grade: u8) -> usize
     ensures { result ≡ start dims grade }
 {
     let mut sum: usize = 0;
-    let mut g: u8 = 0;
-    while g < grade {
-        sum += size_of(dims, g);
-        g += 1;
+    for g in 0..grade {
+        sum += size_or_none(dims, g);
     }
     sum
 }
@@ -43,7 +32,7 @@ pub extern "C" fn thresholm_get_blade(
 ) -> u8
     ensures { ReportsNumber (get_blade (shape_from shape.now) mask a.now) result to_value.old to_value.new }
 {
-    report_number(shape_from(shape).get_blade(mask, a), to_value)
+    report(shape_from(shape).get_blade(mask, a), identity, to_value)
 }
 
 // The value with x at a mask, grown where the mask is outside.
@@ -59,7 +48,7 @@ pub extern "C" fn thresholm_set_blade(
     ensures { ReportsValue (set_blade (shape_from shape.now) mask x a.now (length out.old)) result out.old out.new to_shape.old to_shape.new }
 {
     let answer = shape_from(shape).set_blade(mask, x, a, out);
-    report(answer, to_shape)
+    report(answer, shape_bytes, to_shape)
 }
 
 // One grade of a value: the place at which it starts, and how many numbers it has.
@@ -75,11 +64,10 @@ pub extern "C" fn thresholm_grade(
 {
     let own = shape_from(shape);
     let dims = own.dims;
-    let number = own.grade_refusal(grade, a);
-    if number != DONE {
-        return number;
+    if let Err(refusal) = own.grade_refusal(grade, a) {
+        return refusal.number();
     }
     *to_start = start_of(dims, grade);
-    *to_count = size_of(dims, grade);
-    number
+    *to_count = size_or_none(dims, grade);
+    0
 }

@@ -7,7 +7,7 @@ ghost use Rattle.exports.specs.Reports.{ReportsValue};
 use super::numbers::flavor_in;
 use super::reports::report;
 use masks::build::{blades_left, blades_right, n_1_blades, pseudoscalar, scalar, vector};
-use masks::shape_bytes::shape_from;
+use masks::shape_bytes::{shape_bytes, shape_from};
 
 // A value from the numbers of its first grade.
 #[unsafe(no_mangle)]
@@ -20,7 +20,7 @@ pub extern "C" fn thresholm_vector(
     ensures { ReportsValue (vector v.now (shape_from flavor.now).flavor (length out.old)) result out.old out.new to_shape.old to_shape.new }
 {
     let answer = vector(v, flavor_in(flavor), out);
-    report(answer, to_shape)
+    report(answer, shape_bytes, to_shape)
 }
 
 // A value from the numbers of the grade below its last.
@@ -34,7 +34,7 @@ pub extern "C" fn thresholm_n_1_blades(
     ensures { ReportsValue (n_1_blades v.now (shape_from flavor.now).flavor (length out.old)) result out.old out.new to_shape.old to_shape.new }
 {
     let answer = n_1_blades(v, flavor_in(flavor), out);
-    report(answer, to_shape)
+    report(answer, shape_bytes, to_shape)
 }
 
 // A value whose place 0 is x.
@@ -50,7 +50,7 @@ pub extern "C" fn thresholm_scalar(
     let stated = shape_from(shape);
     let flavor = stated.flavor;
     let answer = scalar(stated.dims, x, flavor, out);
-    report(answer, to_shape)
+    report(answer, shape_bytes, to_shape)
 }
 
 // A value whose last place is x.
@@ -66,7 +66,7 @@ pub extern "C" fn thresholm_pseudoscalar(
     let stated = shape_from(shape);
     let flavor = stated.flavor;
     let answer = pseudoscalar(stated.dims, x, flavor, out);
-    report(answer, to_shape)
+    report(answer, shape_bytes, to_shape)
 }
 
 // A value from a packing of its numbers, filled from the left.
@@ -82,7 +82,7 @@ pub extern "C" fn thresholm_blades_left(
     let stated = shape_from(shape);
     let flavor = stated.flavor;
     let answer = blades_left(stated.dims, v, flavor, out);
-    report(answer, to_shape)
+    report(answer, shape_bytes, to_shape)
 }
 
 // A value from a packing of its numbers, filled from the right.
@@ -98,5 +98,5 @@ pub extern "C" fn thresholm_blades_right(
     let stated = shape_from(shape);
     let flavor = stated.flavor;
     let answer = blades_right(stated.dims, v, flavor, out);
-    report(answer, to_shape)
+    report(answer, shape_bytes, to_shape)
 }

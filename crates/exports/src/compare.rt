@@ -3,7 +3,8 @@ ghost use Rattle.masks.specs.ShapeBytes.{shape_from};
 ghost use Rattle.arithmetic.specs.Compare.{equals, compared};
 ghost use Rattle.exports.specs.Reports.{ReportsYesNo, ReportsOrder};
 
-use super::reports::{report_order, report_yes};
+use super::numbers::order_number;
+use super::reports::report;
 use arithmetic::compare::{cmp, eq};
 use masks::shape_bytes::shape_from;
 
@@ -18,7 +19,8 @@ pub extern "C" fn thresholm_eq(
 ) -> u8
     ensures { ReportsYesNo (equals (shape_from left.now) (shape_from right.now) a.now b.now) result to_yes.old to_yes.new }
 {
-    report_yes(eq(shape_from(left), shape_from(right), a, b), to_yes)
+    let answer = eq(shape_from(left), shape_from(right), a, b);
+    report(answer, u8::from, to_yes)
 }
 
 // The Rust's order: -1, 0 or 1.
@@ -32,5 +34,6 @@ pub extern "C" fn thresholm_cmp(
 ) -> u8
     ensures { ReportsOrder (compared (shape_from left.now) (shape_from right.now) a.now b.now) result to_order.old to_order.new }
 {
-    report_order(cmp(shape_from(left), shape_from(right), a, b), to_order)
+    let answer = cmp(shape_from(left), shape_from(right), a, b);
+    report(answer, order_number, to_order)
 }

@@ -2,14 +2,25 @@
 ghost use Rattle.std.specs.Prelude.{◌≡◌, length};
 ghost use Rattle.masks.specs.Flavor.{metric_of, added_dims};
 ghost use Rattle.masks.specs.Shape.{promotes};
-ghost use Rattle.masks.specs.ShapeBytes.{shape_from};
+ghost use Rattle.masks.specs.Outcome.{shape_of};
+ghost use Rattle.masks.specs.ShapeBytes.{shape_from, shape_bytes};
 ghost use Rattle.masks.specs.Text.{read_flavor, write_flavor};
 ghost use Rattle.exports.specs.Reports.{ReportsFlavor, ReportsList};
 
 use super::numbers::{flavor_in, metric_number};
-use super::reports::{report_count, report_read};
+use super::reports::report;
 use masks::flavor::Flavor;
+use masks::outcome::shape_of;
 use masks::shape::promotion;
+use masks::shape_bytes::shape_bytes;
+use std::convert::identity;
+
+// A flavor as the bytes of the shape of 0 dimensions.
+fn flavor_face(flavor: Flavor) -> [u8; 6]
+    ensures { result ≡ shape_bytes (shape_of 0 flavor) }
+{
+    shape_bytes(shape_of(0, flavor))
+}
 
 // What the basis vector of an index squares to.
 #[unsafe(no_mangle)]
@@ -40,7 +51,7 @@ pub extern "C" fn thresholm_promotion(flavor: &[u8; 6], new_flavor: &[u8; 6]) ->
 pub extern "C" fn thresholm_try_from_str(t: &[u8], to_flavor: &mut [u8; 6]) -> u8
     ensures { ReportsFlavor (read_flavor t.now) result to_flavor.old to_flavor.new }
 {
-    report_read(Flavor::try_from_str(t), to_flavor)
+    report(Flavor::try_from_str(t), flavor_face, to_flavor)
 }
 
 // The text of a flavor, and how many bytes it has.
@@ -48,5 +59,5 @@ pub extern "C" fn thresholm_try_from_str(t: &[u8], to_flavor: &mut [u8; 6]) -> u
 pub extern "C" fn thresholm_write_to(flavor: &[u8; 6], out: &mut [u8], to_count: &mut usize) -> u8
     ensures { ReportsList (write_flavor (shape_from flavor.now).flavor (length out.old)) result out.old out.new to_count.old to_count.new }
 {
-    report_count(flavor_in(flavor).write_to(out), to_count)
+    report(flavor_in(flavor).write_to(out), identity, to_count)
 }

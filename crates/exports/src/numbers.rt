@@ -2,11 +2,12 @@
 ghost use Rattle.std.specs.Prelude.{◌≡◌};
 ghost use Rattle.masks.specs.Flavor.{metric_value};
 ghost use Rattle.masks.specs.ShapeBytes.{shape_from};
-ghost use Rattle.exports.specs.Numbers.{yes_number, order_number};
+ghost use Rattle.exports.specs.Numbers.{order_number, test_number, real_part, imaginary_part};
 
-use arithmetic::outcome::Ordering;
+use arithmetic::scalar::ScalarTest;
 use masks::flavor::{Flavor, Metric};
 use masks::shape_bytes::shape_from;
+use std::cmp::Ordering;
 
 // The flavor of the shape that six bytes say: the dims are not looked at.
 pub(crate) fn flavor_in(bytes: &[u8; 6]) -> Flavor
@@ -29,15 +30,16 @@ pub(crate) fn metric_number(metric: Metric) -> i8
 pub(crate) fn order_number(order: Ordering) -> i8
     ensures { result ≡ order_number order }
 {
-    match order {
-        Ordering::Less => -1,
-        Ordering::Equal => 0,
-        Ordering::Greater => 1,
-    }
+    order as i8
 }
 
-pub(crate) fn yes_number(yes: bool) -> u8
-    ensures { result ≡ yes_number yes }
+// The number of a scalar test's answer, and its two parts: +0 where there is none.
+pub(crate) fn test_numbers(test: ScalarTest) -> (u8, f64, f64)
+    ensures { result ≡ (test_number test, real_part test, imaginary_part test) }
 {
-    if yes { 1 } else { 0 }
+    match test {
+        ScalarTest::Scalar(x) => (0, x, 0.0),
+        ScalarTest::Planar(c) => (1, c.re, c.im),
+        ScalarTest::Neither => (2, 0.0, 0.0),
+    }
 }

@@ -1,8 +1,7 @@
 // Operators.
 ghost use Rattle.std.specs.Prelude.{length};
 ghost use Rattle.masks.specs.ShapeBytes.{shape_from};
-ghost use Rattle.arithmetic.specs.declared.operators.Sum.TheVariants.{Plus, Minus};
-ghost use Rattle.arithmetic.specs.Operators.{multiplication, addition};
+ghost use Rattle.arithmetic.specs.Operators.{Plus, Minus, multiplication, addition};
 ghost use Rattle.arithmetic.specs.Quotient.{quotient};
 ghost use Rattle.arithmetic.specs.Scale.{mul_f64, div_f64, negation};
 ghost use Rattle.exports.specs.Reports.{ReportsValue};
@@ -11,7 +10,7 @@ use super::reports::report;
 use arithmetic::operators::{add, mul, sub};
 use arithmetic::quotient::div;
 use arithmetic::scale::{div_f64, mul_f64, neg};
-use masks::shape_bytes::shape_from;
+use masks::shape_bytes::{shape_bytes, shape_from};
 
 // `*` of two values.
 #[unsafe(no_mangle)]
@@ -26,7 +25,7 @@ pub extern "C" fn thresholm_mul(
     ensures { ReportsValue (multiplication (shape_from left.now) (shape_from right.now) a.now b.now (length out.old)) result out.old out.new to_shape.old to_shape.new }
 {
     let answer = mul(shape_from(left), shape_from(right), a, b, out);
-    report(answer, to_shape)
+    report(answer, shape_bytes, to_shape)
 }
 
 // `+` of two values.
@@ -42,7 +41,7 @@ pub extern "C" fn thresholm_add(
     ensures { ReportsValue (addition Plus (shape_from left.now) (shape_from right.now) a.now b.now (length out.old)) result out.old out.new to_shape.old to_shape.new }
 {
     let answer = add(shape_from(left), shape_from(right), a, b, out);
-    report(answer, to_shape)
+    report(answer, shape_bytes, to_shape)
 }
 
 // `-` of two values.
@@ -58,7 +57,7 @@ pub extern "C" fn thresholm_sub(
     ensures { ReportsValue (addition Minus (shape_from left.now) (shape_from right.now) a.now b.now (length out.old)) result out.old out.new to_shape.old to_shape.new }
 {
     let answer = sub(shape_from(left), shape_from(right), a, b, out);
-    report(answer, to_shape)
+    report(answer, shape_bytes, to_shape)
 }
 
 // `/` of two values.
@@ -74,7 +73,7 @@ pub extern "C" fn thresholm_div(
     ensures { ReportsValue (quotient (shape_from left.now) (shape_from right.now) a.now b.now (length out.old)) result out.old out.new to_shape.old to_shape.new }
 {
     let answer = div(shape_from(left), shape_from(right), a, b, out);
-    report(answer, to_shape)
+    report(answer, shape_bytes, to_shape)
 }
 
 // A value times a number.
@@ -89,7 +88,7 @@ pub extern "C" fn thresholm_mul_f64(
     ensures { ReportsValue (mul_f64 (shape_from shape.now) f a.now (length out.old)) result out.old out.new to_shape.old to_shape.new }
 {
     let answer = mul_f64(shape_from(shape), f, a, out);
-    report(answer, to_shape)
+    report(answer, shape_bytes, to_shape)
 }
 
 // A value over a number.
@@ -104,7 +103,7 @@ pub extern "C" fn thresholm_div_f64(
     ensures { ReportsValue (div_f64 (shape_from shape.now) f a.now (length out.old)) result out.old out.new to_shape.old to_shape.new }
 {
     let answer = div_f64(shape_from(shape), f, a, out);
-    report(answer, to_shape)
+    report(answer, shape_bytes, to_shape)
 }
 
 // A value negated.
@@ -118,5 +117,5 @@ pub extern "C" fn thresholm_neg(
     ensures { ReportsValue (negation (shape_from shape.now) a.now (length out.old)) result out.old out.new to_shape.old to_shape.new }
 {
     let answer = neg(shape_from(shape), a, out);
-    report(answer, to_shape)
+    report(answer, shape_bytes, to_shape)
 }

@@ -4,8 +4,9 @@ ghost use Rattle.masks.specs.ShapeBytes.{shape_from};
 ghost use Rattle.masks.specs.Unpack.{unpack_all, unpack_half, unpack_own_half, unpack_vector};
 ghost use Rattle.exports.specs.Reports.{ReportsList};
 
-use super::reports::report_count;
+use super::reports::report;
 use masks::shape_bytes::shape_from;
+use std::convert::identity;
 
 // All coefficients by mask, at `d` dimensions.
 #[unsafe(no_mangle)]
@@ -18,7 +19,7 @@ pub extern "C" fn thresholm_unpack_all(
 ) -> u8
     ensures { ReportsList (unpack_all (shape_from shape.now) d a.now (length out.old)) result out.old out.new to_count.old to_count.new }
 {
-    report_count(shape_from(shape).unpack_all(d, a, out), to_count)
+    report(shape_from(shape).unpack_all(d, a, out), identity, to_count)
 }
 
 // The even grades, by mask, at `d` dimensions.
@@ -32,7 +33,7 @@ pub extern "C" fn thresholm_unpack_even(
 ) -> u8
     ensures { ReportsList (unpack_half 0 (shape_from shape.now) d a.now (length out.old)) result out.old out.new to_count.old to_count.new }
 {
-    report_count(shape_from(shape).unpack_even(d, a, out), to_count)
+    report(shape_from(shape).unpack_even(d, a, out), identity, to_count)
 }
 
 // The odd grades, by mask, at `d` dimensions.
@@ -46,7 +47,7 @@ pub extern "C" fn thresholm_unpack_odd(
 ) -> u8
     ensures { ReportsList (unpack_half 1 (shape_from shape.now) d a.now (length out.old)) result out.old out.new to_count.old to_count.new }
 {
-    report_count(shape_from(shape).unpack_odd(d, a, out), to_count)
+    report(shape_from(shape).unpack_odd(d, a, out), identity, to_count)
 }
 
 // The even grades at the value's own dimensions.
@@ -59,7 +60,11 @@ pub extern "C" fn thresholm_unpack_own_even(
 ) -> u8
     ensures { ReportsList (unpack_own_half 0 (shape_from shape.now) a.now (length out.old)) result out.old out.new to_count.old to_count.new }
 {
-    report_count(shape_from(shape).unpack_own_even(a, out), to_count)
+    report(
+        shape_from(shape).unpack_own_even(a, out),
+        identity,
+        to_count,
+    )
 }
 
 // The odd grades at the value's own dimensions.
@@ -72,7 +77,7 @@ pub extern "C" fn thresholm_unpack_own_odd(
 ) -> u8
     ensures { ReportsList (unpack_own_half 1 (shape_from shape.now) a.now (length out.old)) result out.old out.new to_count.old to_count.new }
 {
-    report_count(shape_from(shape).unpack_own_odd(a, out), to_count)
+    report(shape_from(shape).unpack_own_odd(a, out), identity, to_count)
 }
 
 // The numbers of the first grade.
@@ -85,5 +90,5 @@ pub extern "C" fn thresholm_unpack_vector(
 ) -> u8
     ensures { ReportsList (unpack_vector (shape_from shape.now) a.now (length out.old)) result out.old out.new to_count.old to_count.new }
 {
-    report_count(shape_from(shape).unpack_vector(a, out), to_count)
+    report(shape_from(shape).unpack_vector(a, out), identity, to_count)
 }

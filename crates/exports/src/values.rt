@@ -10,7 +10,8 @@ ghost use Rattle.arithmetic.specs.Magnitude.{squared_magnitude};
 ghost use Rattle.arithmetic.specs.Scalar.{scalar_test};
 ghost use Rattle.exports.specs.Reports.{ReportsNumber, ReportsTest, ReportsValue, ReportsTaken};
 
-use super::reports::{report, report_number, report_taken, report_test};
+use super::numbers::test_numbers;
+use super::reports::{report, report_three, report_two};
 use arithmetic::dual::{antidual, dual, regressive_product};
 use arithmetic::inverse::inverted;
 use arithmetic::kept::{make_scalar_only, take_scalar};
@@ -18,7 +19,8 @@ use arithmetic::magnitude::squared_magnitude;
 use arithmetic::power::powi;
 use arithmetic::reverse::{inv_reverse, reverse};
 use arithmetic::scalar::scalar_test;
-use masks::shape_bytes::shape_from;
+use masks::shape_bytes::{shape_bytes, shape_from};
+use std::convert::identity;
 
 // Grades 2, 3 mod 4 negated.
 #[unsafe(no_mangle)]
@@ -31,7 +33,7 @@ pub extern "C" fn thresholm_reverse(
     ensures { ReportsValue (reverse (shape_from shape.now) a.now (length out.old)) result out.old out.new to_shape.old to_shape.new }
 {
     let answer = reverse(shape_from(shape), a, out);
-    report(answer, to_shape)
+    report(answer, shape_bytes, to_shape)
 }
 
 // The other grades negated.
@@ -45,7 +47,7 @@ pub extern "C" fn thresholm_inv_reverse(
     ensures { ReportsValue (inv_reverse (shape_from shape.now) a.now (length out.old)) result out.old out.new to_shape.old to_shape.new }
 {
     let answer = inv_reverse(shape_from(shape), a, out);
-    report(answer, to_shape)
+    report(answer, shape_bytes, to_shape)
 }
 
 // The dual.
@@ -59,7 +61,7 @@ pub extern "C" fn thresholm_dual(
     ensures { ReportsValue (dual (shape_from shape.now) a.now (length out.old)) result out.old out.new to_shape.old to_shape.new }
 {
     let answer = dual(shape_from(shape), a, out);
-    report(answer, to_shape)
+    report(answer, shape_bytes, to_shape)
 }
 
 // The antidual.
@@ -73,7 +75,7 @@ pub extern "C" fn thresholm_antidual(
     ensures { ReportsValue (antidual (shape_from shape.now) a.now (length out.old)) result out.old out.new to_shape.old to_shape.new }
 {
     let answer = antidual(shape_from(shape), a, out);
-    report(answer, to_shape)
+    report(answer, shape_bytes, to_shape)
 }
 
 // The regressive product.
@@ -89,7 +91,7 @@ pub extern "C" fn thresholm_regressive_product(
     ensures { ReportsValue (regressive_product (shape_from left.now) (shape_from right.now) a.now b.now (length out.old)) result out.old out.new to_shape.old to_shape.new }
 {
     let answer = regressive_product(shape_from(left), shape_from(right), a, b, out);
-    report(answer, to_shape)
+    report(answer, shape_bytes, to_shape)
 }
 
 // The inverse.
@@ -103,7 +105,7 @@ pub extern "C" fn thresholm_inverted(
     ensures { ReportsValue (inverse (shape_from shape.now) a.now (length out.old)) result out.old out.new to_shape.old to_shape.new }
 {
     let answer = inverted(shape_from(shape), a, out);
-    report(answer, to_shape)
+    report(answer, shape_bytes, to_shape)
 }
 
 // A whole power.
@@ -118,7 +120,7 @@ pub extern "C" fn thresholm_powi(
     ensures { ReportsValue (power (shape_from shape.now) exponent a.now (length out.old)) result out.old out.new to_shape.old to_shape.new }
 {
     let answer = powi(shape_from(shape), exponent, a, out);
-    report(answer, to_shape)
+    report(answer, shape_bytes, to_shape)
 }
 
 // Place 0 kept, and +0 in every other.
@@ -132,7 +134,7 @@ pub extern "C" fn thresholm_make_scalar_only(
     ensures { ReportsValue (make_scalar_only (shape_from shape.now) a.now (length out.old)) result out.old out.new to_shape.old to_shape.new }
 {
     let answer = make_scalar_only(shape_from(shape), a, out);
-    report(answer, to_shape)
+    report(answer, shape_bytes, to_shape)
 }
 
 // The squared magnitude.
@@ -140,7 +142,7 @@ pub extern "C" fn thresholm_make_scalar_only(
 pub extern "C" fn thresholm_squared_magnitude(shape: &[u8; 6], a: &[f64], to_value: &mut f64) -> u8
     ensures { ReportsNumber (squared_magnitude (shape_from shape.now) a.now) result to_value.old to_value.new }
 {
-    report_number(squared_magnitude(shape_from(shape), a), to_value)
+    report(squared_magnitude(shape_from(shape), a), identity, to_value)
 }
 
 // The value without its scalar, and the scalar.
@@ -155,7 +157,12 @@ pub extern "C" fn thresholm_take_scalar(
     ensures { ReportsTaken (take_scalar (shape_from shape.now) a.now (length out.old)) result out.old out.new (to_shape.old, to_value.old) (to_shape.new, to_value.new) }
 {
     let taken = take_scalar(shape_from(shape), a, out);
-    report_taken(taken, to_shape, to_value)
+    report_two(
+        taken,
+        |t| (shape_bytes(t.shape), t.value),
+        to_shape,
+        to_value,
+    )
 }
 
 // Scalar with its number (0), planar with a complex pair (1), or neither (2).
@@ -169,5 +176,6 @@ pub extern "C" fn thresholm_scalar_test(
 ) -> u8
     ensures { ReportsTest (scalar_test (shape_from shape.now) a.now) result (to_test.old, to_re.old ∷ to_im.old ∷ []) (to_test.new, to_re.new ∷ to_im.new ∷ []) }
 {
-    report_test(scalar_test(shape_from(shape), a), to_test, to_re, to_im)
+    let tested = scalar_test(shape_from(shape), a);
+    report_three(tested, test_numbers, to_test, to_re, to_im)
 }

@@ -1,9 +1,9 @@
-use mathlib.Core.Path.{◌≡◌, refl, ap, ◌∙◌}
+use mathlib.Core.Path.{◌≡◌, ap, ◌∙◌}
 use mathlib.Core.List.{List, [], ◌∷◌, ◌++◌}
-use Prim.Native.Nat.{ℕ, suc, ◌+◌, ◌-◌, ◌^◌, ◌≤◌}
+use Prim.Native.Nat.{ℕ, ◌-◌, ◌^◌, ◌≤◌}
 use native.Mathlib.Omega.{arith}
 use lib.Ieee.{Float, nan, of_bits, of_fields, div}
-use lib.ListN.{length, set, take, drop, replicate, length-replicate, length-take, length-drop}
+use lib.ListN.{length, set, take, drop, replicate, length-replicate, length-take}
 use lib.Pow.{pow_pos}
 use Rattle.masks.specs.Outcome.{laid, nought}
 use Rattle.arithmetic.specs.Inverse.{nanified}

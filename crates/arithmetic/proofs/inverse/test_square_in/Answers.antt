@@ -1,6 +1,6 @@
 use mathlib.Core.Path.{◌≡◌, sym, ap, ◌∙◌}
 use mathlib.Core.List.{List, ◌++◌}
-use Prim.Native.Nat.{◌^◌, ◌<◌, ◌≤◌}
+use Prim.Native.Nat.{◌^◌}
 use native.Mathlib.Omega.{arith}
 use lib.Ieee.{Float, nan, binary64, add, neg}
 use lib.ListN.{length, get_or, set, take, drop, length-set}

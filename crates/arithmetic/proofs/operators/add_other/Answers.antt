@@ -3,13 +3,13 @@ use mathlib.Core.List.{List}
 use Prim.Native.Nat.{ℕ, zero, suc, ◌^◌, ◌≤◌}
 use native.Mathlib.Omega.{arith}
 use lib.Ieee.{Float}
-use lib.ListN.{length, take, drop, length-append, length-take}
+use lib.ListN.{length, take, drop, length-append}
 use lib.Seq.{length-take-le}
-use Rattle.std.specs.Prelude.{Result, Ok, Err}
+use Rattle.std.specs.Prelude.{Ok, Err}
 use Rattle.std.proofs.lemmas.Result.{err_from_is_err_and}
 use Rattle.masks.specs.declared.outcome.Refusal.{Refusal}
 use Rattle.masks.specs.declared.shape.Shape.{Shape}
-use Rattle.masks.specs.Outcome.{Pair, Gives, GivesBoth, number_of, unless, value, refused_value, refused_pair, laid}
+use Rattle.masks.specs.Outcome.{Pair, Gives, GivesBoth, unless, refused_pair, laid}
 use Rattle.masks.specs.Shape.{conformed_shape, conform, meeting_dims}
 use Rattle.masks.proofs.ShapeLaws.{paired, conform_dims, conform_lengths}
 use Rattle.masks.proofs.ListLaws.{take_laid}

@@ -1,7 +1,6 @@
 use mathlib.Core.Path.{◌≡◌, ap₂, ◌∙◌}
 use mathlib.Core.Bool.{cond}
 use Prim.Native.Nat.{◌+◌, ◌≤◌, max}
-use native.Mathlib.Nat.{add-zero}
 use native.Mathlib.Omega.{arith}
 use Rattle.masks.specs.Shape.{promotes}
 use Rattle.masks.proofs.ShapeLaws.{promotes_le}

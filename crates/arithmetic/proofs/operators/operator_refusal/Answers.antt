@@ -1,6 +1,5 @@
 use mathlib.Core.Path.{subst}
 use Prim.Native.Nat.{ℕ}
-use lib.ListN.{length}
 use Rattle.masks.specs.Outcome.{IsAnswer}
 use Rattle.arithmetic.proofs.OperatorsLaws.{other_numbered}
 use Rattle.arithmetic.proofs.operators.operator_refusal.Goals as goal

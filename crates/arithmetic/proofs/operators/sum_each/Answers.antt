@@ -7,7 +7,7 @@ use lib.ListN.{length, get_or, set, take}
 use lib.Seq.{length-take-le, get_or-take}
 use Rattle.masks.proofs.ListLaws.{front, front_step, front_all}
 use Rattle.product.proofs.ListLaws.{front_next}
-use Rattle.arithmetic.specs.Operators.{Sum, summed, summed_each}
+use Rattle.arithmetic.specs.Operators.{Sum, summed}
 use Rattle.arithmetic.proofs.OperatorsLaws.{each_length, each_at}
 use Rattle.arithmetic.proofs.operators.sum_each.Invariants.{sums}
 use Rattle.arithmetic.proofs.operators.sum_each.Goals as goal

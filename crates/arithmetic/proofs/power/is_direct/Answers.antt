@@ -1,8 +1,8 @@
-use mathlib.Core.Path.{◌≡◌, sym, ap, ◌∙◌}
+use mathlib.Core.Path.{◌≡◌}
 use Prim.Native.Nat.{ℕ}
 use borrow.Author.Tests.{eq-eqb, ne_eqb}
 use lib.Dec.{eqb}
-use Rattle.arithmetic.specs.Power.{size_of, is_direct}
+use Rattle.arithmetic.specs.Power.{is_direct}
 use Rattle.arithmetic.proofs.PowerLaws.{size_read}
 use Rattle.arithmetic.proofs.power.is_direct.Goals as goal
 

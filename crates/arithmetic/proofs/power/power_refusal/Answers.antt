@@ -95,6 +95,8 @@ returns-then-power-eqminus2147483648 c =
 pub returns : goal.returns
 returns c =
     let g = goal.at.returns c in
-    let a = g.After-refusal_of in
-    (refused_none _ (z a) _ _ (fits a c.in_ok-refusal_of.ensures.0) (not_planar g.Joined-else-power-lt0)
-    (λ e. c.if-power-eqminus2147483648.false ((least (z a) c.ranges.power).1 e)), refl)
+    let a = g.After-refusal_of in (
+      refused_none _ (z a) _ _ (fits a c.in_ok-refusal_of.ensures.0) (not_planar g.Joined-else-power-lt0)
+          (λ e. c.if-power-eqminus2147483648.false ((least (z a) c.ranges.power).1 e)),
+      refl,
+    )

@@ -1,13 +1,10 @@
 use mathlib.Core.Path.{◌≡◌, subst}
 use mathlib.Core.List.{List}
-use Prim.Native.Nat.{ℕ, ◌+◌, ◌^◌, ◌≤◌}
-use native.Mathlib.Omega.{arith}
-use lib.ListN.{length}
+use Prim.Native.Nat.{ℕ, ◌+◌}
 use Rattle.std.specs.Prelude.{Result}
 use Rattle.masks.specs.declared.outcome.Refusal.{Refusal}
 use Rattle.masks.specs.Flavor.{added_dims}
 use Rattle.masks.specs.Order.{GivesOrder}
-use Rattle.arithmetic.specs.inner.Given.{InOrder}
 use Rattle.arithmetic.proofs.OrderPassed.{array_room, order_put, passed_put}
 use Rattle.arithmetic.proofs.power.raise_wide.Goals as goal
 

@@ -2,7 +2,6 @@ use mathlib.Core.Path.{◌≡◌, sym, ap, subst, ◌∙◌}
 use mathlib.Core.Bool.{true, false}
 use mathlib.Core.List.{List, [], ◌∷◌}
 use Prim.Native.Nat.{ℕ, ◌^◌, ◌≤◌}
-use native.Mathlib.Omega.{arith}
 use borrow.Author.Tests.{le-ltb, eq-eqb, ne_eqb}
 use lib.Ieee.{Float}
 use lib.ListN.{length}
@@ -12,7 +11,7 @@ use Rattle.masks.specs.declared.outcome.Refusal.{Refusal}
 use Rattle.masks.specs.declared.shape.Shape.{Shape}
 use Rattle.masks.specs.Outcome.{Outcome, Gives, IsAnswer, number_of, refusal, too_many, wrong_count, no_room, pair_tests}
 use Rattle.masks.proofs.OutcomeLaws.{refuses, later_same, refused_already, gives_refused, passed, valued}
-use Rattle.arithmetic.specs.Scalar.{test_of, was_planar}
+use Rattle.arithmetic.specs.Scalar.{was_planar}
 use Rattle.arithmetic.specs.Operators.{is_other}
 use Rattle.arithmetic.specs.Quotient.{quotient_dims, quotient}
 use Rattle.arithmetic.proofs.InverseLaws.{inverse_length}

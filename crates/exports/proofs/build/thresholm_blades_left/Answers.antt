@@ -1,5 +1,6 @@
 use mathlib.Core.Path.{ap}
 use lib.ListN.{length}
+use Rattle.std.proofs.Common.{rules}
 use Rattle.masks.specs.declared.shape.Shape.{Shape}
 use Rattle.masks.specs.Build.{blades_of_side}
 use Rattle.exports.proofs.ReportsLaws.{value_reported}
@@ -8,4 +9,4 @@ use Rattle.exports.proofs.build.thresholm_blades_left.Goals as goal
 pub returns : goal.returns
 returns c =
     let given = c.args in
-    value_reported (ap (λ (s : Shape). blades_of_side 0 s.dims given.v.now s.flavor (length given.out.now)) c.shape_from-stated.ensures) c.blades_left-answer.ensures c.report.ensures
+    value_reported (ap (λ (s : Shape). blades_of_side 0 s.dims given.v.now s.flavor (length given.out.now)) c.shape_from-stated.ensures) c.blades_left-answer.ensures (λ s p. search rules) c.report.ensures

@@ -1,5 +1,6 @@
 use mathlib.Core.Path.{ap₂}
 use lib.ListN.{length}
+use Rattle.std.proofs.Common.{rules}
 use Rattle.masks.specs.declared.shape.Shape.{Shape}
 use Rattle.arithmetic.specs.Quotient.{quotient}
 use Rattle.exports.proofs.ReportsLaws.{value_reported}
@@ -8,4 +9,4 @@ use Rattle.exports.proofs.operators.thresholm_div.Goals as goal
 pub returns : goal.returns
 returns c =
     let given = c.args in
-    value_reported (ap₂ (λ (s : Shape) (t : Shape). quotient s t given.a.now given.b.now (length given.out.now)) c.shape_from.ensures c.shape_from-2.ensures) c.div-answer.ensures c.report.ensures
+    value_reported (ap₂ (λ (s : Shape) (t : Shape). quotient s t given.a.now given.b.now (length given.out.now)) c.shape_from.ensures c.shape_from-2.ensures) c.div-answer.ensures (λ s p. search rules) c.report.ensures

@@ -10,7 +10,7 @@ use Rattle.exports.proofs.sheet.any_above_nine.Goals as goal
 
 pub loop-i-init : goal.loop-i-init
 unfolding any_above_nine
-loop-i-init c = (omega arith, refl)
+loop-i-init c = refl
 
 pub returns-then-bytes-i-gt-MAX_DIMS : goal.returns-then-bytes-i-gt-MAX_DIMS
 returns-then-bytes-i-gt-MAX_DIMS c =
@@ -22,10 +22,10 @@ pub loop-i-preserved : goal.loop-i-preserved
 loop-i-preserved c =
     let b = c.args.bytes.now in
     let l = c.loop-i in
-    (omega arith, above_next (said_shapes 6 b) l.i (omega (arith, said_shapes-length 6 b)) (rw (dims_said b l.i (omega arith)) c.if-bytes-i-gt-MAX_DIMS.false) l.invariant.1)
+    above_next (said_shapes 6 b) l.i (omega (arith, said_shapes-length 6 b)) (rw (dims_said b l.i (omega arith)) c.if-bytes-i-gt-MAX_DIMS.false) l.invariant
 
 pub returns : goal.returns
 returns c =
     let b = c.args.bytes.now in
     let l = c.loop-i in
-    sym (sym (ap any_above_nine (take_all l.i (said_shapes 6 b) (omega (arith, said_shapes-length 6 b)))) ∙ l.invariant.1)
+    sym (sym (ap any_above_nine (take_all l.i (said_shapes 6 b) (omega (arith, said_shapes-length 6 b)))) ∙ l.invariant)

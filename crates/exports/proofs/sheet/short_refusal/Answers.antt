@@ -1,10 +1,8 @@
-use mathlib.Core.Path.{ap}
-use Rattle.sheets.specs.declared.read.SheetRead.{SheetRead}
-use Rattle.exports.proofs.SheetLaws.{short_nine, short_three}
+use Rattle.exports.proofs.SheetLaws.{short_ok, short_err}
 use Rattle.exports.proofs.sheet.short_refusal.Goals as goal
 
-pub returns-then-tried-eq-MALFORMED : goal.returns-then-tried-eq-MALFORMED
-returns-then-tried-eq-MALFORMED c = short_nine c.args.bytes.now c.read-tried.result.number (ap (λ (s : SheetRead). s.number) c.read-tried.ensures.answered) c.if-tried-eq-MALFORMED.true
+pub returns-in-Ok : goal.returns-in-Ok
+returns-in-Ok c = short_ok c.args.bytes.now c.in-Ok.ensures.answered.0
 
-pub returns : goal.returns
-returns c = short_three c.args.bytes.now c.read-tried.result.number (ap (λ (s : SheetRead). s.number) c.read-tried.ensures.answered) c.if-tried-eq-MALFORMED.false
+pub returns-in-Err : goal.returns-in-Err
+returns-in-Err c = short_err c.args.bytes.now c.in-Err.refusal c.in-Err.ensures.answered

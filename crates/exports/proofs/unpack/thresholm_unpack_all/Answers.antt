@@ -1,5 +1,6 @@
 use mathlib.Core.Path.{ap}
 use lib.ListN.{length}
+use Rattle.std.proofs.Common.{rules}
 use Rattle.masks.specs.declared.shape.Shape.{Shape}
 use Rattle.masks.specs.Unpack.{unpack_all}
 use Rattle.exports.proofs.ReportsLaws.{list_reported}
@@ -8,4 +9,4 @@ use Rattle.exports.proofs.unpack.thresholm_unpack_all.Goals as goal
 pub returns : goal.returns
 returns c =
     let given = c.args in
-    list_reported (ap (λ (s : Shape). unpack_all s given.d given.a.now (length given.out.now)) c.shape_from.ensures) c.unpack_all.ensures c.report_count.ensures
+    list_reported (ap (λ (s : Shape). unpack_all s given.d given.a.now (length given.out.now)) c.shape_from.ensures) c.unpack_all.ensures (λ k p. search rules) c.report.ensures

@@ -1,5 +1,6 @@
 use mathlib.Core.Path.{ap}
 use lib.ListN.{length}
+use Rattle.std.proofs.Common.{rules}
 use Rattle.masks.specs.declared.shape.Shape.{Shape}
 use Rattle.arithmetic.specs.Dual.{antidual}
 use Rattle.exports.proofs.ReportsLaws.{value_reported}
@@ -8,4 +9,4 @@ use Rattle.exports.proofs.values.thresholm_antidual.Goals as goal
 pub returns : goal.returns
 returns c =
     let given = c.args in
-    value_reported (ap (λ (s : Shape). antidual s given.a.now (length given.out.now)) c.shape_from.ensures) c.antidual-answer.ensures c.report.ensures
+    value_reported (ap (λ (s : Shape). antidual s given.a.now (length given.out.now)) c.shape_from.ensures) c.antidual-answer.ensures (λ s p. search rules) c.report.ensures

@@ -1,11 +1,13 @@
-use mathlib.Core.Path.{ap, ◌∙◌}
+use mathlib.Core.Path.{ap}
+use lib.Ieee.{Float}
+use Rattle.std.proofs.Common.{rules}
 use Rattle.masks.specs.declared.shape.Shape.{Shape}
+use Rattle.masks.specs.Outcome.{Real}
 use Rattle.arithmetic.specs.Magnitude.{squared_magnitude}
-use Rattle.exports.specs.Reports.{ReportsNumber}
 use Rattle.exports.proofs.ReportsLaws.{same_reported}
 use Rattle.exports.proofs.values.thresholm_squared_magnitude.Goals as goal
 
 pub returns : goal.returns
 returns c =
     let given = c.args in
-    same_reported ReportsNumber (c.squared_magnitude.ensures ∙ (ap (λ (s : Shape). squared_magnitude s given.a.now) c.shape_from.ensures)) c.report_number.ensures
+    same_reported (λ (o : Real). o.number) (λ (o : Real). o.value) (λ (x : Float). x) _ _ _ _ (ap (λ (s : Shape). squared_magnitude s given.a.now) c.shape_from.ensures) c.squared_magnitude.ensures (λ x p. search rules) c.report.ensures

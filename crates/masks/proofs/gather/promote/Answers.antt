@@ -51,12 +51,6 @@ module _ (c : At-loop-g) where
         omega
         (arith, kept, c.loop-g.invariant.0, c.loop-g.invariant.2, c.requires.2, part_within (d + 1) (g + 1) (omega arith), size_both d g)
 
-pub bounds-a-0 : goal.bounds-a-0
-bounds-a-0 c = omega (arith, pow_pos c.args.dims)
-
-pub bounds-out-0 : goal.bounds-out-0
-bounds-out-0 c = omega (arith, pow_pos (c.args.dims + 1))
-
 pub loop-g-init : goal.loop-g-init
 loop-g-init c =
     let d = c.args.dims in (
@@ -96,9 +90,6 @@ loop-g-preserved c =
           (c.clear_part.ensures ∙ ap (λ xs. sets xs l.k (replicate l.below nought)) l.invariant.3)
           ∙ promoted_next (d (goal.at.loop-g-preserved c).At-loop-g) (a (goal.at.loop-g-preserved c).At-loop-g) c.requires.1 (g (goal.at.loop-g-preserved c).At-loop-g) (out (goal.at.loop-g-preserved c).At-loop-g) l.invariant.0 l.invariant.1 l.invariant.2 e h (omega (arith, long (goal.at.loop-g-preserved c).At-loop-g, c.requires.2)),
     )
-
-pub shape_of-out : goal.shape_of-out
-shape_of-out c = kept (goal.at.shape_of-out c).At-loop-g
 
 pub returns : goal.returns
 returns c = c.loop-g.invariant.3 ∙ promoted_all (d (goal.at.returns c).At-loop-g) (a (goal.at.returns c).At-loop-g) (g (goal.at.returns c).At-loop-g) c.args.out.now (get_or (a (goal.at.returns c).At-loop-g) 0 nan) (omega arith)
