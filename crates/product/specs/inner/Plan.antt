@@ -1,9 +1,10 @@
--- What a plan makes of two lists of numbers, in terms of specs/Given. A reader need not believe this page. Assumes nothing.
-use Rattle.std.specs.Prelude.{List, map, ℕ, ◌^◌, Float, get_or}
+-- What a plan makes of two lists of numbers, in terms of specs/Given, and what the sums keep. A reader need not believe this page. Assumes nothing.
+use Rattle.std.specs.Prelude.{◌≡◌, List, map, ℕ, ◌^◌, Float, get_or}
 use Rattle.std.specs.Float.{nan, binary64}
 use Rattle.rounding.specs.Snap.{snap}
 use Rattle.masks.specs.Order.{up_from}
 use Rattle.product.specs.declared.plan.Plan.{Plan}
+use Rattle.product.specs.declared.plan.Sums.{Sums}
 use Rattle.product.specs.Given.{product_by}
 use Rattle.product.specs.inner.Sums.{low_mask}
 
@@ -18,3 +19,7 @@ taken_by p sums = map (λ k. snap binary64 (get_or sums (plan_mask p k) nan)) (u
 -- The coefficients of the product.
 abbrev pub planned : Plan → List Float → List Float → List Float
 planned p = product_by (plan_mask p) p.shape.dims p.mode p.shape.flavor binary64
+
+-- The sums stand where they stood, with the same dimensions and numbers of a.
+abbrev pub Kept : Sums → Sums → Type 0
+Kept before after = (after.acc.ghost_name ≡ before.acc.ghost_name) × (after.dims ≡ before.dims) × (after.am ≡ before.am)
