@@ -3,13 +3,12 @@ ghost use Rattle.std.specs.Prelude.{◌≡◌, true, map, ℕ, ◌+◌, ◌%◌,
 ghost use Rattle.std.specs.Int.Bits.{bit_and, bit_xor};
 ghost use Rattle.std.specs.Int.Count.{ones};
 ghost use Rattle.std.specs.Float.{nan, binary64};
-ghost use Rattle.std.specs.Float.Ieee.{add, sub, mul, neg, fits};
-ghost use Rattle.rounding.specs.Snap.{snap};
+ghost use Rattle.std.specs.Float.Ieee.{sub, neg, fits};
 ghost use Rattle.masks.specs.Order.{up_from};
 ghost use Rattle.masks.specs.Outcome.{laid, nought};
 ghost use Rattle.product.specs.Given.{at_mask};
 ghost use Rattle.product.specs.inner.Sums.{meets, with_pairs, subset_from, beyond, turned_mask, turned_number, turned_at, rows_below};
-ghost use Rattle.product.specs.inner.Plan.{plan_mask, taken_by, planned, Kept};
+ghost use Rattle.product.specs.inner.Plan.{plan_mask, taken_by, planned, Kept, paired};
 
 use super::metric::{Blade, Squares, blade_of, squares_of};
 use super::mode::{Mode, flavor_for};
@@ -33,7 +32,7 @@ fn odd_ones(dims: u8, f: u32) -> usize
 fn add_pair(sums: &mut Sums, m: u32, blade: Blade, ys: &[f64])
     requires { (m < 2 ^ sums.old.dims) × (blade.mask < 2 ^ sums.old.dims) × (length ys.now ≡ 2) }
     ensures kept { Kept sums.old sums.new }
-    ensures added { sums.new.acc.now ≡ set sums.old.acc.now (bit_xor m blade.mask) (add binary64 (get_or sums.old.acc.now (bit_xor m blade.mask) nan) (mul binary64 (get_or sums.old.am.now m nan) (get_or ys.now (ones (bit_and m blade.flips) % 2) nan))) }
+    ensures added { sums.new.acc.now ≡ set sums.old.acc.now (bit_xor m blade.mask) (paired m blade ys.now sums.old) }
 {
     let c = (m ^ blade.mask) as usize;
     let sign = odd_ones(sums.dims, m & blade.flips);
