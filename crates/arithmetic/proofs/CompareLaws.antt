@@ -1,37 +1,31 @@
 -- What the reference's == and `cmp` do that equality and order don't, and what their proofs cite. Assumes nothing.
-use mathlib.Core.Path.{◌≡◌, refl, sym, ap, ◌∙◌}
-use mathlib.Core.Bool.{Bool, beq, true, false, ◌&&◌, ◌||◌, false≢true}
+use mathlib.Core.Path.{◌≡◌, refl, sym, ap, ap₂, ◌∙◌}
+use mathlib.Core.Bool.{Bool, beq, true, false, ◌&&◌, ◌||◌, cond, false≢true}
 use mathlib.Core.List.{List, [], ◌∷◌}
 use mathlib.Core.Logic.{◌⊎◌, ⊎_elim, inl, inr}
-use Prim.Native.Nat.{ℕ, zero, suc, ◌+◌, ◌*◌, ◌^◌, ◌≤◌, ◌<◌}
+use Prim.Native.Nat.{ℕ, zero, suc, ◌+◌, ◌-◌, ◌*◌, ◌^◌, ◌≤◌, ◌<◌}
 use native.Mathlib.Nat.{suc_inj, suc-mul, zero-mul}
 use native.Mathlib.Numerals.{add-one}
 use native.Mathlib.Omega.{arith}
 use lib.Dec.{eqb}
-use lib.Ieee.{Float, nan, inf, fin, up, down, level, below, eq, ne, lt, is_nan}
+use lib.Ieee.{Float, nan, inf, fin, up, down, level, below, eq, lt, is_nan}
 use lib.IntN.{ℤ, pos, negsuc}
-use lib.ListN.{length, get_or, drop, drop_of_length-le}
+use lib.ListN.{length, get_or, drop, length-drop, drop_of_length-le}
 use lib.Pow.{pow_pos}
-use lib.Seq.{drop-cons}
-use borrow.Author.Tests.{eq-eqb, ne_eqb, eqb-true, eqb-false, le-ltb, not-false}
+use lib.Seq.{drop-cons, drop-drop}
+use borrow.Author.Tests.{ne_eqb, eqb-true, eqb-false, le-ltb, not-false}
 use Rattle.masks.specs.declared.flavor.Flavor.TheVariants.{Vanilla}
 use Rattle.masks.specs.declared.shape.Shape.{Shape}
 use Rattle.masks.specs.Outcome.{refusal, too_many, wrong_count, unless, shape_of, nought}
 use Rattle.masks.proofs.OutcomeLaws.{past, unless_done}
-use Rattle.arithmetic.specs.declared.outcome.Ordering.{Ordering}
-use Rattle.arithmetic.specs.declared.outcome.Ordering.TheVariants.{Less, Equal, Greater}
+use Rattle.std.specs.Prelude.{Option, None, Some}
+use Rattle.std.specs.Option.{unwrap_or, is_some}
+use Rattle.std.specs.Ordering.{float_partial_cmp}
+use Rattle.std.specs.declared.cmp.Ordering.{Ordering}
+use Rattle.std.specs.declared.cmp.Ordering.TheVariants.{Less, Equal, Greater}
 use Rattle.arithmetic.specs.Scalar.{is_zero, all_zero, is_scalar, is_planar, test_of, if_scalar}
 use Rattle.arithmetic.specs.Compare.{compared_tests, answers_agree, same_number, same_places, refused_yes_no, equals, compared_nans, compared_numbers, or_else, compared_places, compared_counts, compared_lists, compared_by, compared}
 use Rattle.arithmetic.proofs.ScalarLaws.{and_both, if_scalar_lem, if_other}
-
--- NaN is the one number that doesn't equal itself.
-pub ne_self : (x : Float) → ne x x ≡ is_nan x
-unfolding ne eq is_nan
-ne_self nan = refl
-ne_self (inf true) = refl
-ne_self (inf false) = refl
-ne_self (fin true m e) = rw (eq-eqb (m * up e * down e) (m * up e * down e) refl)
-ne_self (fin false m e) = rw (eq-eqb (m * up e * down e) (m * up e * down e) refl)
 
 -- ---- numbers that are equal
 
@@ -114,6 +108,37 @@ equal_compared (fin s m e) (fin t n d) q =
     let z = below_level s t (m * up e * down d) (n * up d * down e) q in
     rw (z.0, z.1)
 
+-- Numbers compare as Rust's partial order has them, and where it has none as NaN does.
+module _ (x y : Float) where
+  pub ordered : (o : Ordering) → float_partial_cmp x y ≡ Some o → compared_numbers x y ≡ o
+  unfolding compared_numbers
+  ordered o h = go (lt x y) (eq x y) (lt y x) refl refl refl h
+    where
+      given : {p q : Ordering} → Some p ≡ Some q → p ≡ q
+      given e = ap (λ (t : Option Ordering). unwrap_or t Equal) e
+
+      go : (l e g : Bool) → lt x y ≡ l → eq x y ≡ e → lt y x ≡ g → cond l (Some Less) (cond e (Some Equal) (cond g (Some Greater) None)) ≡ Some o → cond (lt x y) Less (cond (lt y x) Greater (compared_nans x y)) ≡ o
+      go true e g p q r f = rw p (given f)
+      go false true g p q r f = equal_compared x y q ∙ given f
+      go false false true p q r f = rw (p, r) (given f)
+      go false false false p q r f = absurd (none f)
+        where
+          none : None ≡ Some o → ⊥
+          none e = false≢true (ap is_some e)
+
+  pub unordered : float_partial_cmp x y ≡ None → compared_numbers x y ≡ compared_nans x y
+  unfolding compared_numbers
+  unordered h = go (lt x y) (eq x y) (lt y x) refl refl h
+    where
+      some : {o : Ordering} → Some o ≡ None → ⊥
+      some e = false≢true (sym (ap is_some e))
+
+      go : (l e g : Bool) → lt x y ≡ l → lt y x ≡ g → cond l (Some Less) (cond e (Some Equal) (cond g (Some Greater) None)) ≡ None → cond (lt x y) Less (cond (lt y x) Greater (compared_nans x y)) ≡ compared_nans x y
+      go true e g p r f = absurd (some f)
+      go false true g p r f = absurd (some f)
+      go false false true p r f = absurd (some f)
+      go false false false p r f = rw (p, r)
+
 -- ---- places
 
 module _ (a b : List Float) (i : ℕ) where
@@ -130,7 +155,7 @@ module _ (a b : List Float) (i : ℕ) where
 same_next : (a b : List Float) (i j : ℕ) → j ≡ i + 1 → i < length a → length a ≡ length b → eq (get_or a i nan) (get_or b i nan) ≡ true → compared_places (drop i a) (drop i b) ≡ compared_places (drop j a) (drop j b)
 same_next a b i j e l k q = at_place a b i Equal l (omega arith) (equal_compared _ _ q) ∙ ap (λ (n : ℕ). compared_places (drop n a) (drop n b)) (sym e)
 
-pub four_same : (a b : List Float) (i : ℕ) (w x y z : Bool) → i + 4 ≤ length a → length a ≡ length b
+four_same : (a b : List Float) (i : ℕ) (w x y z : Bool) → i + 4 ≤ length a → length a ≡ length b
     → eq (get_or a i nan) (get_or b i nan) ≡ w → eq (get_or a (i + 1) nan) (get_or b (i + 1) nan) ≡ x → eq (get_or a (i + 2) nan) (get_or b (i + 2) nan) ≡ y → eq (get_or a (i + 3) nan) (get_or b (i + 3) nan) ≡ z
     → (((w && x) && y) && z) ≡ true → compared_places (drop i a) (drop i b) ≡ compared_places (drop (i + 4) a) (drop (i + 4) b)
 four_same a b i w x y z l k p q r s t =
@@ -141,6 +166,17 @@ four_same a b i w x y z l k p q r s t =
     ∙ same_next a b (i + 1) (i + 2) (omega arith) (omega arith) k (q ∙ o.1)
     ∙ same_next a b (i + 2) (i + 3) (omega arith) (omega arith) k (r ∙ v.1)
     ∙ same_next a b (i + 3) (i + 4) (omega arith) (omega arith) k (s ∙ u.1)
+
+-- The same of what is left from place i on.
+pub four_passed : (a b d e : List Float) (i : ℕ) → i + 4 ≤ length a → length a ≡ length b → d ≡ drop i a → e ≡ drop i b
+    → (((eq (get_or d 0 nan) (get_or e 0 nan) && eq (get_or d 1 nan) (get_or e 1 nan)) && eq (get_or d 2 nan) (get_or e 2 nan)) && eq (get_or d 3 nan) (get_or e 3 nan)) ≡ true
+    → compared_places (drop i a) (drop i b) ≡ compared_places (drop (i + 4) a) (drop (i + 4) b)
+four_passed a b d e i h l p q t =
+    let m : length d ≡ length a - i = ap length p ∙ length-drop i a in
+    let n : length e ≡ length b - i = ap length q ∙ length-drop i b in
+    sym (ap₂ compared_places p q)
+    ∙ four_same d e 0 _ _ _ _ (omega (arith, m)) (omega (arith, m, n, l)) refl refl refl refl t
+    ∙ ap₂ compared_places (ap (drop 4) p ∙ drop-drop 4 i a) (ap (drop 4) q ∙ drop-drop 4 i b)
 
 -- Zeros compare as equal.
 zeros_compared : (a b : List Float) → all_zero a ≡ true → all_zero b ≡ true → compared_places a b ≡ Equal
@@ -268,9 +304,9 @@ scalar_some [] e = absurd (false≢true e)
 scalar_some (x ∷ a) e = omega arith
 
 -- Two values that are not refused have the numbers of their dimensions.
-pub both_counted : (s t : Shape) (a b : List Float) (n : ℕ) → n ≡ refusal (compared_tests s t a b) → n ≡ 0 → (length a ≡ 2 ^ s.dims) × (length b ≡ 2 ^ t.dims)
-both_counted s t a b n e z =
-    let p = past (too_many s.dims) _ (λ q. omega arith) (sym e ∙ z) in
+pub both_counted : (s t : Shape) (a b : List Float) → refusal (compared_tests s t a b) ≡ 0 → (length a ≡ 2 ^ s.dims) × (length b ≡ 2 ^ t.dims)
+both_counted s t a b z =
+    let p = past (too_many s.dims) _ (λ q. omega arith) z in
     let q = past (too_many t.dims) _ (λ q. omega arith) p.1 in
     let l = past (wrong_count (length a) s.dims) _ (λ q. omega arith) q.1 in
     let r = past (wrong_count (length b) t.dims) _ (λ q. omega arith) l.1 in

@@ -1,21 +1,22 @@
 -- What the proofs of duals and the regressive product share: the pseudo unit, what the duals write, and the tests of the regressive product. Assumes nothing.
 use mathlib.Core.Path.{◌≡◌, refl, sym, ap, ap₂, ◌∙◌, subst}
 use mathlib.Core.List.{List, [], ◌∷◌}
-use Prim.Native.Nat.{ℕ, ◌-◌, ◌^◌, ◌≤◌}
-use native.Mathlib.Nat.{add-zero, sub-zero, le_refl}
+use Prim.Native.Nat.{ℕ, ◌^◌, ◌≤◌}
+use native.Mathlib.Nat.{add-zero, le_refl}
 use native.Mathlib.Omega.{arith}
 use lib.Ieee.{Float, binary64}
 use lib.ListN.{length, take}
+use Rattle.std.specs.Prelude.{Result, Ok, Err}
 use Rattle.masks.specs.declared.flavor.Flavor.TheVariants.{Vanilla}
 use Rattle.masks.specs.declared.shape.Shape.{Shape}
-use Rattle.masks.specs.declared.outcome.Answer.{Answer}
-use Rattle.masks.specs.Outcome.{Outcome, Gives, refusal, value, refused_value, answer_of, shape_of, laid}
+use Rattle.masks.specs.declared.outcome.Refusal.{Refusal}
+use Rattle.masks.specs.Outcome.{Outcome, Gives, refusal, number_of, value, shape_of, laid}
 use Rattle.masks.specs.Flavor.{added_dims}
 use Rattle.masks.specs.Shape.{conformed_shape, meeting_dims}
 use Rattle.masks.specs.Build.{pseudoscalar}
 use Rattle.masks.proofs.ListLaws.{take_laid}
 use Rattle.masks.proofs.OrderLaws.{blades_le}
-use Rattle.masks.proofs.OutcomeLaws.{gives_refused, gives_done, Passed}
+use Rattle.masks.proofs.OutcomeLaws.{refuses, gives_refused, gives_done, Passed}
 use Rattle.masks.proofs.BuildLaws.{size_last, grade_fits, length_grade_set, one_built}
 use Rattle.product.specs.declared.mode.Mode.TheVariants.{All, Outer}
 use Rattle.product.specs.declared.outcome.Product.{Product}
@@ -43,15 +44,15 @@ unit_built d room h m = rw (add-zero d) (one_built d d (unity ∷ []) Vanilla ro
 
 -- ---- what `dual` and `antidual` write, whatever the room: the pseudo unit is built at the front of an array that is long enough
 
-module _ (d : ℕ) (a : List Float) (h : d ≤ 9) (e : length a ≡ 2 ^ d) (v : Shape) (w : v ≡ shape_of d Vanilla) (u : Answer) (array held : List Float) (long : length a ≤ length array)
+module _ (d : ℕ) (a : List Float) (h : d ≤ 9) (e : length a ≡ 2 ^ d) (v : Shape) (w : v ≡ shape_of d Vanilla) (u : Result Shape Refusal) (array held : List Float) (long : length a ≤ length array)
     (built : Gives (pseudoscalar d unity Vanilla (length array)) u array held) where
-  unit_part : take (length a - 0) held ≡ pseudo_unit d
+  unit_part : take (length a) held ≡ pseudo_unit d
   unit_part =
-      ap (take (length a - 0)) (built.left ∙ ap (λ (o : Outcome). laid o.coefs array) (unit_built d (length array) h (omega arith)))
-      ∙ take_laid (length a - 0) (pseudo_unit d) array (unit_length d ∙ sym e ∙ sym (sub-zero (length a)))
+      ap (take (length a)) (built.left ∙ ap (λ (o : Outcome). laid o.coefs array) (unit_built d (length array) h (omega arith)))
+      ∙ take_laid (length a) (pseudo_unit d) array (unit_length d ∙ sym e)
 
   module _ (before after : List Float) (m : 2 ^ d ≤ length before) where
-    pub dual_laid : (given : List ℕ) → InOrder given d → (r : Product) → GivesProduct (multiplied_by given All v v a (take (length a - 0) held) (length before)) r before after → after ≡ laid (dual_of d a) before
+    pub dual_laid : (given : List ℕ) → InOrder given d → (r : Result Product Refusal) → GivesProduct (multiplied_by given All v v a (take (length a) held) (length before)) r before after → after ≡ laid (dual_of d a) before
     unfolding dual_of
     dual_laid given ordered r g =
         (rw (w, unit_part) at g).left
@@ -59,7 +60,7 @@ module _ (d : ℕ) (a : List Float) (h : d ≤ 9) (e : length a ≡ 2 ^ d) (v : 
         (multiplied_ordered All (shape_of d Vanilla) (shape_of d Vanilla) a (pseudo_unit d) (length before) given (passed_vanilla given d (shape_of d Vanilla) refl ordered)
         ∙ multiplied_same All (shape_of d Vanilla) a (pseudo_unit d) (length before) (record { small = h; roomy = m }) e (unit_length d))
 
-    pub antidual_laid : (r : Answer) → Gives (multiplication v v (take (length a - 0) held) a (length before)) r before after → after ≡ laid (antidual_of d a) before
+    pub antidual_laid : (r : Result Shape Refusal) → Gives (multiplication v v (take (length a) held) a (length before)) r before after → after ≡ laid (antidual_of d a) before
     unfolding antidual_of
     antidual_laid r g =
         (rw (w, unit_part) at g).left
@@ -72,8 +73,8 @@ unfolding dual_of
 dual_length d a = product_length All Vanilla d binary64 a (pseudo_unit d)
 
 -- A dual that stands at the front of an array.
-dual_part : (n d : ℕ) (a before after : List Float) → n ≡ 2 ^ d → after ≡ laid (dual_of d a) before → take (n - 0) after ≡ dual_of d a
-dual_part n d a before after e q = ap (take (n - 0)) q ∙ take_laid (n - 0) (dual_of d a) before (dual_length d a ∙ sym e ∙ sym (sub-zero n))
+dual_part : (n d : ℕ) (a before after : List Float) → n ≡ 2 ^ d → after ≡ laid (dual_of d a) before → take n after ≡ dual_of d a
+dual_part n d a before after e q = ap (take n) q ∙ take_laid n (dual_of d a) before (dual_length d a ∙ sym e)
 
 -- ---- the regressive product
 
@@ -82,9 +83,9 @@ module _ (s t : Shape) (a b : List Float) (room : ℕ) where
   abbrev pub Meets : Type 0
   Meets = Passed s.dims t.dims (meeting_dims s t) (length a) (length b) room
 
-  pub meeting_refused : (n : ℕ) (r : Answer) (out : List Float) → n ≡ refusal (product_tests s t a b room) → (n ≡ 0 → ⊥) → r ≡ answer_of (refused_value n) → Gives (regressive_product s t a b room) r out out
+  pub meeting_refused : (e : Refusal) (out : List Float) → refusal (product_tests s t a b room) ≡ number_of e → Gives (regressive_product s t a b room) (Err e) out out
   unfolding regressive_product
-  meeting_refused n r out e h q = gives_refused (refusal (product_tests s t a b room)) n _ r out e h q
+  meeting_refused e out h = gives_refused (refusal (product_tests s t a b room)) e _ out h
 
   pub meeting_done : Meets → refusal (product_tests s t a b room) ≡ 0
   meeting_done = pair_accepted s.dims t.dims (meeting_dims s t) (length a) (length b) room
@@ -132,32 +133,34 @@ module _ (s t : Shape) (a b : List Float) (room : ℕ) (m : Meets s t a b room) 
       ap (λ (o : Outcome). length o.coefs) outer_is ∙ product_length Outer u.flavor u.dims binary64 _ _ ∙ ap (λ (o : Outcome). 2 ^ o.shape.dims) (sym outer_is)
 
   -- The code has the duals at the fronts of two arrays, and their product, by masks that are in order, at the front of a third.
-  module _ (given : List ℕ) (ordered : InOrder given (meeting_dims s t)) (p : Product) (bx ax by ay bz az : List Float) (long : 2 ^ meeting_dims s t ≤ length bz)
-      (ex : ax ≡ laid x bx) (ey : ay ≡ laid y by)
-      (g : GivesProduct (multiplied_by given Outer s t (take (length a - 0) ax) (take (length b - 0) ay) (length bz)) p bz az) where
-    gives_outer : GivesProduct (outer_product s t x y ample) p bz az
-    gives_outer =
-        subst (λ (o : Counted). GivesProduct o p bz az)
+  module _ (given : List ℕ) (ordered : InOrder given (meeting_dims s t)) (bx ax by ay bz az : List Float) (long : 2 ^ meeting_dims s t ≤ length bz) (ex : ax ≡ laid x bx) (ey : ay ≡ laid y by) where
+    abbrev Held : Result Product Refusal → Type 0
+    Held r = GivesProduct (multiplied_by given Outer s t (take (length a) ax) (take (length b) ay) (length bz)) r bz az
+
+    gives_outer : (r : Result Product Refusal) → Held r → GivesProduct (outer_product s t x y ample) r bz az
+    gives_outer r g =
+        subst (λ (o : Counted). GivesProduct o r bz az)
         (multiplied_ordered Outer s t x y (length bz) given ordered ∙ outer_in (length bz) long ∙ sym outer_ample)
         (rw (dual_part (length a) s.dims a bx ax m.counted ex, dual_part (length b) t.dims b by ay m.counted_right ey) at g)
 
-    shape_is : p.shape ≡ outer.shape
-    shape_is = ap (λ (q : Product). q.shape) gives_outer.answered
+    pub never_refused : (e : Refusal) → Held (Err e) → ⊥
+    never_refused e g = refuses e (sym (gives_outer (Err e) g).answered ∙ ap (λ (o : Outcome). o.number) outer_is)
 
-    pub meeting_shape : p.shape.dims ≡ meeting_dims s t
-    meeting_shape = ap (λ (u : Shape). u.dims) shape_is ∙ outer_dims
+    module _ (p : Product) (g : Held (Ok p)) where
+      shape_is : p.shape ≡ outer.shape
+      shape_is = ap (λ (q : Product). q.shape) (gives_outer (Ok p) g).answered.1
 
-    abbrev answer : ℕ → Shape → Answer
-    answer k u = record { number = k; shape = u }
+      pub meeting_shape : p.shape.dims ≡ meeting_dims s t
+      meeting_shape = ap (λ (u : Shape). u.dims) shape_is ∙ outer_dims
 
-    outer_part : (n : ℕ) → n ≡ 2 ^ p.shape.dims → take n az ≡ outer.coefs
-    outer_part n e =
-        ap (take n) gives_outer.left ∙ take_laid n outer.coefs bz (outer_length ∙ ap (λ (u : Shape). 2 ^ u.dims) (sym shape_is) ∙ sym e)
+      outer_part : (n : ℕ) → n ≡ 2 ^ p.shape.dims → take n az ≡ outer.coefs
+      outer_part n e =
+          ap (take n) (gives_outer (Ok p) g).left ∙ take_laid n outer.coefs bz (outer_length ∙ ap (λ (u : Shape). 2 ^ u.dims) (sym shape_is) ∙ sym e)
 
-    pub gives_regressive : (n : ℕ) (r : Answer) (before after : List Float) → n ≡ 2 ^ p.shape.dims → r ≡ answer_of (value p.shape []) → after ≡ laid (antidual_of p.shape.dims (take n az)) before
-        → Gives (regressive_product s t a b room) r before after
-    unfolding regressive_product
-    gives_regressive n r before after e q l =
-        gives_done (refusal (product_tests s t a b room)) 0 (with_coefs (antidual_of outer.shape.dims) outer) r before after (sym (meeting_done s t a b room m)) refl
-        (q ∙ ap₂ answer (ap (λ (o : Outcome). o.number) (sym outer_is)) shape_is)
-        (l ∙ ap₂ (λ (u : Shape) (c : List Float). laid (antidual_of u.dims c) before) shape_is (outer_part n e))
+      pub gives_regressive : (n : ℕ) (before after : List Float) → n ≡ 2 ^ p.shape.dims → after ≡ laid (antidual_of p.shape.dims (take n az)) before
+          → Gives (regressive_product s t a b room) (Ok p.shape) before after
+      unfolding regressive_product
+      gives_regressive n before after e l =
+          gives_done (refusal (product_tests s t a b room)) (with_coefs (antidual_of outer.shape.dims) outer) p.shape before after (meeting_done s t a b room m)
+          (ap (λ (o : Outcome). o.number) outer_is) shape_is
+          (l ∙ ap₂ (λ (u : Shape) (c : List Float). laid (antidual_of u.dims c) before) shape_is (outer_part n e))

@@ -8,11 +8,13 @@ use lib.Dec.{T, ltb, ltb→lt}
 use lib.Ieee.{Float, nan, neg}
 use lib.ListN.{length, get_or, length-set, length-map, length-replicate}
 use lib.Pow.{pow_pos}
+use Rattle.std.specs.Prelude.{Ok, Err}
 use Rattle.masks.specs.declared.shape.Shape.{Shape}
-use Rattle.masks.specs.declared.outcome.Answer.{Answer}
-use Rattle.masks.specs.Outcome.{Test, Outcome, Gives, refusal, unless, value, refused_value, answer_of, laid, nought}
+use Rattle.masks.specs.declared.outcome.Refusal.{Refusal}
+use Rattle.masks.specs.declared.outcome.Refusal.TheVariants as Refusals
+use Rattle.masks.specs.Outcome.{Test, Outcome, Gives, refusal, number_of, unless, value, refused_value, laid, nought}
 use Rattle.masks.proofs.ListLaws.{both}
-use Rattle.masks.proofs.OutcomeLaws.{past, refused_already, refused_later, unless_refused, gives_refused, gives_done}
+use Rattle.masks.proofs.OutcomeLaws.{past, refused_already, refused_later, refuses, unless_refused, gives_refused, gives_done}
 use Rattle.arithmetic.specs.declared.scalar.ScalarTest.{ScalarTest}
 use Rattle.arithmetic.specs.declared.scalar.ScalarTest.TheVariants.{Scalar, Planar, Neither}
 use Rattle.arithmetic.specs.Scalar.{test_of, if_scalar, was_planar}
@@ -145,17 +147,17 @@ module _ (s : Shape) (a : List Float) (room : ℕ) where
       five_unless _ _ (last_five (kept_tests s a room) tt (was_planar (test_of s a)) (accepted_kept s a room f) (is_planar_lem s a f.counted p))
 
 -- What a call gives: refused as a call that keeps the shape is; refused 5; or the inverse.
-module _ (s : Shape) (a : List Float) (r : Answer) (before : List Float) where
-  pub gives_not_kept : (n : ℕ) → n ≡ refusal (kept_tests s a (length before)) → (n ≡ 0 → ⊥) → r ≡ answer_of (refused_value n) → Gives (inverse s a (length before)) r before before
+module _ (s : Shape) (a before : List Float) where
+  pub gives_not_kept : (e : Refusal) → refusal (kept_tests s a (length before)) ≡ number_of e → Gives (inverse s a (length before)) (Err e) before before
   unfolding inverse
-  gives_not_kept n e h q = gives_refused _ n _ r before (e ∙ sym (refused_already (kept_tests s a (length before)) _ (λ z. h (e ∙ z)))) h q
+  gives_not_kept e h = gives_refused _ e _ before (refused_already (kept_tests s a (length before)) _ (λ z. refuses e (sym h ∙ z)) ∙ h)
 
-  pub gives_no_inverse : refusal (kept_tests s a (length before)) ≡ 0 → was_planar (test_of s a) ≡ true → r ≡ answer_of (refused_value 5) → Gives (inverse s a (length before)) r before before
+  pub gives_no_inverse : refusal (kept_tests s a (length before)) ≡ 0 → was_planar (test_of s a) ≡ true → Gives (inverse s a (length before)) (Err Refusals.Planar) before before
   unfolding inverse
-  gives_no_inverse z p q = gives_refused _ 5 _ r before (sym (last_five (kept_tests s a (length before)) tt _ z p)) (λ y. omega arith) q
+  gives_no_inverse z p = gives_refused _ Refusals.Planar _ before (last_five (kept_tests s a (length before)) tt _ z p)
 
-  pub gives_inverse : (after : List Float) → refusal (kept_tests s a (length before)) ≡ 0 → was_planar (test_of s a) ≡ false → r ≡ answer_of (value s []) → after ≡ laid (inverse_of s a) before
-      → Gives (inverse s a (length before)) r before after
+  pub gives_inverse : (after : List Float) → refusal (kept_tests s a (length before)) ≡ 0 → was_planar (test_of s a) ≡ false → after ≡ laid (inverse_of s a) before
+      → Gives (inverse s a (length before)) (Ok s) before after
   unfolding inverse
-  gives_inverse after z p q e =
-      gives_done _ 0 (value s (inverse_of s a)) r before after (sym (all_passed (kept_tests s a (length before)) _ tt z ∙ none (was_planar (test_of s a)) p)) refl q e
+  gives_inverse after z p l =
+      gives_done _ (value s (inverse_of s a)) s before after (all_passed (kept_tests s a (length before)) _ tt z ∙ none (was_planar (test_of s a)) p) refl refl l

@@ -1,24 +1,26 @@
 -- Calls on one value that keep its shape: a copy of the value, changed where it lies. Assumes nothing.
-use mathlib.Core.Path.{◌≡◌, refl, sym, ap, subst, ◌∙◌}
+use mathlib.Core.Path.{◌≡◌, refl, sym, ap, ap₂, subst, ◌∙◌}
 use mathlib.Core.Bool.{Bool, true, false, cond}
-use mathlib.Core.List.{List, [], ◌++◌, map}
+use mathlib.Core.List.{List, ◌++◌, map, append-nil}
 use Prim.Native.Nat.{ℕ, zero, suc, ◌+◌, ◌-◌, ◌^◌, ◌≤◌, ◌<◌}
-use native.Mathlib.Nat.{zero-add}
 use native.Mathlib.Omega.{arith}
 use borrow.Author.Tests.{le-ltb, eq-eqb}
 use lib.Ieee.{Float, nan, eq, mul, binary64}
-use lib.ListN.{length, get_or, set, take, drop, replicate, length-map, length-append, length-take, length-set, length-replicate, take-append-drop, get_or-append}
-use lib.Seq.{length-take-le, set-append_left}
+use lib.ListN.{length, get_or, set, take, drop, replicate, length-map, length-append, length-take, length-set, length-replicate, take-append-drop, get_or-append, drop_of_length-le}
+use lib.Seq.{length-take-le, set-append_left, take_all}
+use Rattle.std.specs.Prelude.{Result, Ok, Err}
+use Rattle.std.proofs.lemmas.List.{get_or_default}
+use Rattle.std.proofs.lemmas.List.Edits.{map_over_more}
 use Rattle.masks.specs.declared.shape.Shape.{Shape}
-use Rattle.masks.specs.declared.outcome.Answer.{Answer}
-use Rattle.masks.specs.Outcome.{Outcome, Gives, laid, refusal, too_many, unless, value, refused_value, answer_of, nought, result_tests}
+use Rattle.masks.specs.declared.outcome.Refusal.{Refusal}
+use Rattle.masks.specs.Outcome.{Outcome, Gives, laid, refusal, too_many, number_of, unless, value, refused_value, nought, result_tests}
 use Rattle.masks.specs.Shape.{set_dims}
-use Rattle.masks.proofs.ListLaws.{take_laid, front, front_length, front_step, front_all}
-use Rattle.masks.proofs.OutcomeLaws.{taken, later_same, refused_later, unless_done, gives_refused, gives_done, not_refused}
-use Rattle.masks.proofs.ShapeLaws.{resized_same, part_length, part_at}
-use Rattle.product.proofs.ListLaws.{front_next, laid_over}
+use Rattle.masks.proofs.ListLaws.{take_laid}
+use Rattle.masks.proofs.OutcomeLaws.{taken, later_same, refused_later, refuses, answer_one, unless_done, unless_err, unless_ok, unless_number, gives_refused, gives_done, not_refused}
+use Rattle.masks.proofs.ShapeLaws.{resized_same}
+use Rattle.product.proofs.ListLaws.{laid_over}
 use Rattle.arithmetic.specs.declared.outcome.Taken.{Taken}
-use Rattle.arithmetic.specs.Kept.{kept_tests, kept, scalar_only, Halves, GivesTaken}
+use Rattle.arithmetic.specs.Kept.{kept_tests, kept, scalar_only, Halves, taken_of, GivesTaken}
 use Rattle.arithmetic.specs.Scale.{unity, scaled}
 
 -- What a call may rest on where it is not refused.
@@ -32,12 +34,6 @@ unless_same : (k n : ℕ) (o p : Outcome) → n ≡ k → (k ≡ 0 → o ≡ p) 
 unfolding unless
 unless_same zero n o p e h = rw e (h refl)
 unless_same (suc k) n o p e h = rw e
-
--- A refusal is the same whatever was to be done.
-refused_same : (k : ℕ) (o p : Outcome) (r : Answer) (before after : List Float) → o.number ≡ 0 → (r.number ≡ 0 → ⊥) → Gives (unless refused_value k o) r before after → Gives (unless refused_value k p) r before after
-unfolding unless
-refused_same zero o p r before after z h g = absurd (h (ap (λ (a : Answer). a.number) g.answered ∙ z))
-refused_same (suc k) o p r before after z h g = g
 
 module _ (s : Shape) (a : List Float) (room : ℕ) where
   -- The tests are those of a change to its own dimensions.
@@ -65,65 +61,80 @@ pub kept_value : (g : List Float → List Float) (s : Shape) (a : List Float) (r
 unfolding kept
 kept_value g s a room f = unless_done refused_value (refusal (kept_tests s a room)) 0 _ (sym (accepted_kept s a room f)) refl
 
-module _ (s : Shape) (a : List Float) (r : Answer) (before mid : List Float) (g : Gives (set_dims s s.dims a (length before)) r before mid) where
+-- ---- a value set to its own dimensions, where the output held `before` and holds `mid`
+
+module _ (s : Shape) (a : List Float) (r : Result Shape Refusal) (before mid : List Float) (g : Gives (set_dims s s.dims a (length before)) r before mid) where
   own : Gives (kept (λ xs. xs) s a (length before)) r before mid
   own = subst (λ (o : Outcome). Gives o r before mid) (copied s a (length before)) g
 
-  unrefused : r.number ≡ 0 → refusal (kept_tests s a (length before)) ≡ 0
+module _ (s : Shape) (a : List Float) (e : Refusal) (before mid : List Float) (g : Gives (set_dims s s.dims a (length before)) (Err e) before mid) where
+  -- It is refused with the number of the tests.
+  pub copy_number : refusal (kept_tests s a (length before)) ≡ number_of e
   unfolding kept
-  unrefused z = (not_refused _ (value s a) (sym (ap (λ (x : Answer). x.number) own.answered) ∙ z)).0
+  copy_number = sym (unless_number (λ (o : Outcome). o.number) refused_value (refusal (kept_tests s a (length before))) (value s a) refl refl) ∙ (own s a (Err e) before mid g).answered
 
-  done : r.number ≡ 0 → Gives (value s a) r before mid
+  copy_left : mid ≡ before
   unfolding kept
-  done z = subst (λ (o : Outcome). Gives o r before mid) (unless_done refused_value _ 0 (value s a) (sym (unrefused z)) refl) own
+  copy_left =
+      (own s a (Err e) before mid g).left
+      ∙ ap (λ (o : Outcome). laid o.coefs before) (unless_err refused_value (refusal (kept_tests s a (length before))) e (value s a) copy_number)
 
   -- A copy that is refused writes nothing, whatever was to be done to it.
-  pub copy_refused : (f : List Float → List Float) → (r.number ≡ 0 → ⊥) → Gives (kept f s a (length before)) r before mid
+  pub copy_refused : (f : List Float → List Float) → Gives (kept f s a (length before)) (Err e) before mid
   unfolding kept
-  copy_refused f h = refused_same _ (value s a) (value s (f a)) r before mid refl h own
+  copy_refused f =
+      let k = refusal (kept_tests s a (length before)) in
+      subst (λ (xs : List Float). Gives (unless refused_value k (value s (f a))) (Err e) before xs) (sym copy_left) (gives_refused k e (value s (f a)) before copy_number)
 
-  pub copy_accepted : r.number ≡ 0 → Accepted s a (length before)
-  copy_accepted z = kept_accepted s a (length before) (unrefused z)
+module _ (s : Shape) (a : List Float) (t : Shape) (before mid : List Float) (g : Gives (set_dims s s.dims a (length before)) (Ok t) before mid) where
+  unrefused : refusal (kept_tests s a (length before)) ≡ 0
+  unfolding kept
+  unrefused = (not_refused _ (value s a) (own s a (Ok t) before mid g).answered.0).0
+
+  done : Gives (value s a) (Ok t) before mid
+  unfolding kept
+  done = subst (λ (o : Outcome). Gives o (Ok t) before mid) (unless_ok refused_value _ (value s a) unrefused) (own s a (Ok t) before mid g)
+
+  pub copy_accepted : Accepted s a (length before)
+  copy_accepted = kept_accepted s a (length before) unrefused
+
+  -- It has the shape of the value.
+  pub copy_shape : t ≡ s
+  copy_shape = done.answered.1
 
   -- A copy that is done is at the front of the output.
-  pub copy_laid : r.number ≡ 0 → mid ≡ laid a before
-  copy_laid z = (done z).left
+  pub copy_laid : mid ≡ laid a before
+  copy_laid = done.left
 
-  pub copy_room : r.number ≡ 0 → length a ≤ length mid
-  copy_room z = rw (copy_laid z) (omega (arith, length-append a (drop (length a) before)))
-
-  -- It is done where the value is accepted.
-  pub copy_done : Accepted s a (length before) → r.number ≡ 0
-  unfolding kept
-  copy_done f =
-      ap (λ (x : Answer). x.number) own.answered
-      ∙ ap (λ (o : Outcome). o.number) (unless_done refused_value _ 0 (value s a) (sym (accepted_kept s a (length before) f)) refl)
+  pub copy_room : length a ≤ length mid
+  copy_room = rw copy_laid (omega (arith, length-append a (drop (length a) before)))
 
   -- The copy is changed where it lies.
-  pub copy_changed : (f : List Float → List Float) (after : List Float) → r.number ≡ 0 → length (f a) ≡ length a → after ≡ laid (f (take (length a) mid)) mid → Gives (kept f s a (length before)) r before after
+  pub copy_changed : (f : List Float → List Float) (after : List Float) → length (f a) ≡ length a → after ≡ laid (f (take (length a) mid)) mid → Gives (kept f s a (length before)) (Ok t) before after
   unfolding kept
-  copy_changed f after z l e =
-      let whole : take (length a) mid ≡ a = rw (copy_laid z) (take_laid (length a) a before refl) in
-      let over : laid (f a) mid ≡ laid (f a) before = rw (copy_laid z) (laid_over (f a) a before l) in
-      gives_done _ 0 (value s (f a)) r before after (sym (unrefused z)) refl (done z).answered
+  copy_changed f after l e =
+      let whole : take (length a) mid ≡ a = rw copy_laid (take_laid (length a) a before refl) in
+      let over : laid (f a) mid ≡ laid (f a) before = rw copy_laid (laid_over (f a) a before l) in
+      gives_done _ (value s (f a)) t before after unrefused refl copy_shape
       (e ∙ ap (λ (xs : List Float). laid (f xs) mid) whole ∙ over)
 
--- ---- a call that keeps the shape: n is the number that the code found
+-- ---- a call that keeps the shape, by the number that its tests give
 
-module _ (g : List Float → List Float) (s : Shape) (a : List Float) (n : ℕ) (r : Answer) (out : List Float) (e : n ≡ refusal (kept_tests s a (length out))) where
-  pub kept_refused : (n ≡ 0 → ⊥) → r ≡ answer_of (refused_value n) → Gives (kept g s a (length out)) r out out
+module _ (g : List Float → List Float) (s : Shape) (a out : List Float) where
+  pub kept_refused : (e : Refusal) → refusal (kept_tests s a (length out)) ≡ number_of e → Gives (kept g s a (length out)) (Err e) out out
   unfolding kept
-  kept_refused h q = gives_refused (refusal (kept_tests s a (length out))) n (value s (g a)) r out e h q
+  kept_refused e h = gives_refused (refusal (kept_tests s a (length out))) e (value s (g a)) out h
 
-  pub kept_done : (after : List Float) → n ≡ 0 → r ≡ answer_of (value s []) → after ≡ laid (g a) out → Gives (kept g s a (length out)) r out after
+  pub kept_done : (after : List Float) → refusal (kept_tests s a (length out)) ≡ 0 → after ≡ laid (g a) out → Gives (kept g s a (length out)) (Ok s) out after
   unfolding kept
-  kept_done after z q l = gives_done (refusal (kept_tests s a (length out))) n (value s (g a)) r out after e z q l
+  kept_done after z l = gives_done (refusal (kept_tests s a (length out))) (value s (g a)) s out after z refl refl l
 
 -- ---- copies
 
 -- A value set to its own dimensions, where it is accepted, is a copy at the front of the output.
-pub copy_whole : (s : Shape) (a : List Float) (r : Answer) (before mid : List Float) → Gives (set_dims s s.dims a (length before)) r before mid → Accepted s a (length before) → mid ≡ laid a before
-copy_whole s a r before mid g f = copy_laid s a r before mid g (copy_done s a r before mid g f)
+pub copy_whole : (s : Shape) (a : List Float) (r : Result Shape Refusal) (before mid : List Float) → Gives (set_dims s s.dims a (length before)) r before mid → Accepted s a (length before) → mid ≡ laid a before
+copy_whole s a (Ok t) before mid g f = copy_laid s a t before mid g
+copy_whole s a (Err e) before mid g f = absurd (refuses e (sym (copy_number s a e before mid g) ∙ accepted_kept s a (length before) f))
 
 -- What lies at the front is changed where it lies.
 pub relaid : (f : List Float → List Float) (xs out mid after : List Float) (n : ℕ) → length xs ≡ n → length (f xs) ≡ n → mid ≡ laid xs out → after ≡ laid (f (take n mid)) mid → after ≡ laid (f xs) out
@@ -150,25 +161,18 @@ set_laid n out i x l h =
 pub same_laid : (n : ℕ) (out : List Float) → n ≤ length out → out ≡ laid (take n out) out
 same_laid n out h = sym (take-append-drop n out) ∙ ap (λ (m : ℕ). take n out ++ drop m out) (sym (length-take-le n out h))
 
--- The first n, each changed as f does.
-module _ (f : Float → Float) (n : ℕ) (out : List Float) (h : n ≤ length out) where
-  pub changed_length : length (map f (take n out)) ≡ n
-  changed_length = part_length f 0 n out (omega arith)
+-- The first n, each changed as f does, from the front: what is at i is as it was, and changed becomes the next one.
+pub changed_next : (f : Float → Float) (xs ys : List Float) (i : ℕ) → i < length xs → length ys ≡ length xs → ys ≡ map f (take i xs) ++ drop i xs → set ys i (f (get_or ys i nan)) ≡ map f (take (i + 1) xs) ++ drop (i + 1) xs
+changed_next f xs ys i h l e =
+    let within : i < length ys = omega (arith, l) in
+    map_over_more f xs ys i (get_or ys i nan) h e (get_or_default ys i nan (get_or ys i nan) within)
 
-  pub changed_room : (k : ℕ) → k ≤ n → length (front k (map f (take n out)) out) ≡ length out
-  changed_room k l = front_length k (map f (take n out)) out (omega (arith, changed_length)) (omega arith)
-
-  -- While k of them are changed, what is at k is as it was, and changed becomes the next one.
-  pub changed_step : (k : ℕ) (now : List Float) (y : Float) → k < n → now ≡ front k (map f (take n out)) out → y ≡ f (get_or now k nan) → set now k y ≡ front (k + 1) (map f (take n out)) out
-  changed_step k now y l e q =
-      let xs = map f (take n out) in
-      let here : get_or (front k xs out) k nan ≡ get_or out (0 + k) nan = front_next k xs out (omega (arith, changed_length)) ∙ ap (λ (m : ℕ). get_or out m nan) (sym (zero-add k)) in
-      let next : y ≡ get_or xs k nan =
-      q ∙ ap (λ (o : List Float). f (get_or o k nan)) e ∙ ap f here ∙ sym (part_at f 0 n out k nan nan l (omega arith)) in
-      rw e (front_step k xs nan out y next (omega (arith, changed_length)) (omega arith))
-
-  pub changed_all : (k : ℕ) → k ≡ n → front k (map f (take n out)) out ≡ laid (map f (take n out)) out
-  changed_all k e = front_all k (map f (take n out)) out (changed_length ∙ sym e)
+pub changed_all : (f : Float → Float) (n : ℕ) (out ys : List Float) (i : ℕ) → n ≤ length out → length (take n out) ≤ i → ys ≡ map f (take i (take n out)) ++ drop i (take n out) → ys ++ drop n out ≡ laid (map f (take n out)) out
+changed_all f n out ys i h l e =
+    let xs = take n out in
+    let w : ys ≡ map f xs = e ∙ ap₂ (λ (us vs : List Float). map f us ++ vs) (take_all i xs l) (drop_of_length-le xs l) ∙ append-nil (map f xs) in
+    let k : length (map f xs) ≡ n = length-map xs f ∙ length-take-le n out h in
+    ap₂ (λ (us : List Float) (m : ℕ). us ++ drop m out) w (sym k)
 
 -- ---- lengths
 
@@ -187,5 +191,5 @@ scalar_only_length a =
 
 -- ---- nothing is left open by the contract of `take_scalar`
 
-pub gives_taken_one : {o : Halves} {r r' : Taken} {before after after' : List Float} → GivesTaken o r before after → GivesTaken o r' before after' → (r ≡ r') × (after ≡ after')
-gives_taken_one g h = (g.answered ∙ sym h.answered, g.left ∙ sym h.left)
+pub gives_taken_one : {o : Halves} {r r' : Result Taken Refusal} {before after after' : List Float} → GivesTaken o r before after → GivesTaken o r' before after' → (r ≡ r') × (after ≡ after')
+gives_taken_one {o = o} g h = (answer_one o.outcome.number (taken_of o) _ _ g.answered h.answered, g.left ∙ sym h.left)

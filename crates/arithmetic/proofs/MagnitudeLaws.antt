@@ -1,7 +1,7 @@
 -- The product of the flavor metrics of a mask's bits, by masks: 0 where the mask has a vector that squares to 0, else the sign of a count of ones. Assumes nothing.
 use mathlib.Core.Path.{◌≡◌, refl, sym, ap, ap₂, ◌∙◌}
 use mathlib.Core.Bool.{Bool, true, false, ◌&&◌, cond, false≢true}
-use mathlib.Core.List.{List, []}
+use mathlib.Core.List.{List}
 use mathlib.Core.Logic.{◌⊎◌, ⊎_elim, inl, inr}
 use Prim.Native.Nat.{ℕ, zero, suc, ◌+◌, ◌-◌, ◌/◌, ◌%◌, ◌^◌, ◌<◌, ◌≤◌, min}
 use native.Mathlib.Nat.{add-zero, min-eq_left, min-eq_right}
@@ -20,8 +20,10 @@ use Rattle.clifford.proofs.Ring.{mul_one}
 use Rattle.clifford.proofs.BladeLaws.{has_zero, has_suc, has_beyond, has_and, has_ext}
 use Rattle.clifford.proofs.CountLaws.{count_ext, count_ones}
 use Rattle.clifford.proofs.SignLaws.{sign_add}
+use Rattle.std.specs.Prelude.{Result}
 use Rattle.masks.specs.declared.flavor.Flavor.{Flavor}
 use Rattle.masks.specs.declared.flavor.Flavor.TheVariants.{Vanilla, Projective, Cl}
+use Rattle.masks.specs.declared.outcome.Refusal.{Refusal}
 use Rattle.masks.specs.Flavor.{metric_of}
 use Rattle.masks.specs.Order.{order, GivesOrder}
 use Rattle.masks.specs.Outcome.{refusal, unless, laid}
@@ -33,11 +35,10 @@ use Rattle.arithmetic.specs.Magnitude.{weight}
 -- ---- the order in an array
 
 -- An array with room for the order of d dimensions holds the mask of each place.
-pub order_put : (d r : ℕ) (before after : List ℕ) → GivesOrder d r before after → d ≤ 9 → 2 ^ d ≤ length before → (2 ^ d ≤ length after) × ((i : ℕ) → i < 2 ^ d → get_or after i 0 ≡ mask_at d i)
+pub order_put : (d : ℕ) (r : Result (Unit {0}) Refusal) (before after : List ℕ) → GivesOrder d r before after → d ≤ 9 → 2 ^ d ≤ length before → (2 ^ d ≤ length after) × ((i : ℕ) → i < 2 ^ d → get_or after i 0 ≡ mask_at d i)
 unfolding refusal unless
 order_put d r before after g h l =
-    let z : r ≡ 0 = g.answered ∙ rw (le-ltb 9 d h, le-ltb (length before) (2 ^ d) l) in
-    let e : after ≡ laid (order d) before = g.left ∙ ap (λ (k : ℕ). laid (unless (λ _. []) k (order d)) before) z in
+    let e : after ≡ laid (order d) before = g.left ∙ rw (le-ltb 9 d h, le-ltb (length before) (2 ^ d) l) refl in
     (omega (arith, ap length e, length-append (order d) (drop (length (order d)) before), length_order d), (λ i q. rw e (get_or-append (order d) _ 0 i (omega (arith, length_order d)))))
 
 -- ---- the lowest bits

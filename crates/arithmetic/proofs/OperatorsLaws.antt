@@ -9,14 +9,15 @@ use lib.Dec.{eqb}
 use lib.Ieee.{Float, nan, binary64}
 use lib.ListN.{length, get_or, take, drop, length-append}
 use borrow.Author.Tests.{eq-eqb, eqb-true, not-true, not-false}
+use Rattle.std.specs.Prelude.{Ok, Err}
 use Rattle.masks.specs.declared.flavor.Flavor.{Flavor}
 use Rattle.masks.specs.declared.flavor.Flavor.TheVariants.{Vanilla, Projective, Cl}
 use Rattle.masks.specs.declared.shape.Shape.{Shape}
-use Rattle.masks.specs.declared.outcome.Answer.{Answer}
+use Rattle.masks.specs.declared.outcome.Refusal.{Refusal}
 use Rattle.masks.specs.Outcome.{Outcome, Gives, refusal, unless, value, refused_value, laid, too_many, wrong_count, no_room, result_tests, pair_tests}
 use Rattle.masks.specs.Shape.{promotes, conformed, conformed_shape, conform_to, conform, both_tests, meeting_dims}
 use Rattle.masks.proofs.ListLaws.{take_laid}
-use Rattle.masks.proofs.OutcomeLaws.{taken, unless_done, unless_refused, Passed, passed, passes, not_refused, later_same}
+use Rattle.masks.proofs.OutcomeLaws.{taken, refuses, unless_done, unless_refused, Passed, passed, passes, not_refused, later_same}
 use Rattle.masks.proofs.OrderLaws.{blades_le}
 use Rattle.masks.proofs.ShapeLaws.{resized_length, resized_same, conformed_none}
 use Rattle.product.specs.declared.mode.Mode.TheVariants.{All}
@@ -26,12 +27,11 @@ use Rattle.product.proofs.ListLaws.{laid_over}
 use Rattle.product.proofs.PairwiseLaws.{product_length}
 use Rattle.product.proofs.ProductsRefusals.{pair_accepted, second_accepted, conform_done, refused_by}
 use Rattle.product.proofs.ProductsLaws.{multiplied_done}
-use Rattle.arithmetic.specs.declared.operators.Sum.{Sum}
 use Rattle.arithmetic.specs.declared.scalar.ScalarTest.{ScalarTest}
 use Rattle.arithmetic.specs.declared.scalar.ScalarTest.TheVariants.{Scalar, Planar, Neither}
 use Rattle.arithmetic.specs.Scalar.{is_scalar, test_of, if_scalar}
 use Rattle.arithmetic.specs.Scale.{scaled}
-use Rattle.arithmetic.specs.Operators.{is_other, joined_dims, result_dims, operator_tests, with_coefs, multiplication, summed, summed_at0, summed_each, summed_pair, addition}
+use Rattle.arithmetic.specs.Operators.{is_other, joined_dims, result_dims, operator_tests, with_coefs, multiplication, Sum, summed, summed_at0, summed_each, summed_pair, addition}
 use Rattle.arithmetic.proofs.KeptLaws.{Accepted, scaled_length}
 use Rattle.arithmetic.proofs.ScalarLaws.{and_both, if_scalar_lem, if_other}
 
@@ -55,6 +55,13 @@ unfolding if_scalar
 either (Scalar x) f y P h g = h x
 either (Planar c) f y P h g = g
 either Neither f y P h g = g
+
+-- A test that does not answer scalar takes the other result.
+pub if_not_scalar : {A : Type 0} (t : ScalarTest) (f : Float → A) (y : A) → ((x : Float) → t ≡ Scalar x → ⊥) → if_scalar t f y ≡ y
+unfolding if_scalar
+if_not_scalar (Scalar x) f y h = absurd (h x refl)
+if_not_scalar (Planar c) f y h = refl
+if_not_scalar Neither f y h = refl
 
 module _ (s t : Shape) (a b : List Float) (room : ℕ) where
   -- What a call may rest on where an operator is not refused.
@@ -217,22 +224,22 @@ unfolding unless
 refused_kept f zero o z e h = absurd (h z)
 refused_kept f (suc k) o z e h = sym e
 
-module _ (s t : Shape) (a : List Float) (r : Answer) (before mid : List Float) (g : Gives (conform_to s t a (length before)) r before mid) where
+module _ (s t : Shape) (a : List Float) (u : Shape) (before mid : List Float) (g : Gives (conform_to s t a (length before)) (Ok u) before mid) where
   abbrev conformed_coefs : List Float
   conformed_coefs = (conform_to s t a (length before)).coefs
 
   -- What a change may rest on where conforming is not refused.
   pub record Conformed : Type 0 where
-    pub small : r.shape.dims ≤ 9
-    pub counted : length conformed_coefs ≡ 2 ^ r.shape.dims
-    pub roomy : 2 ^ r.shape.dims ≤ length mid
+    pub small : u.dims ≤ 9
+    pub counted : length conformed_coefs ≡ 2 ^ u.dims
+    pub roomy : 2 ^ u.dims ≤ length mid
 
-  pub conformed_facts : r.number ≡ 0 → Conformed
+  pub conformed_facts : Conformed
   unfolding conform_to conformed_shape conformed
-  conformed_facts z =
+  conformed_facts =
       let n = max (s.dims + promotes s.flavor t.flavor) t.dims in
-      let q = not_refused _ _ (sym (ap (λ (x : Answer). x.number) g.answered) ∙ z) in
-      let e : r.shape.dims ≡ n = ap (λ (x : Answer). x.shape.dims) g.answered ∙ ap (λ (o : Outcome). o.shape.dims) q.1 in
+      let q = not_refused _ _ g.answered.0 in
+      let e : u.dims ≡ n = ap (λ (v : Shape). v.dims) g.answered.1 ∙ ap (λ (o : Outcome). o.shape.dims) q.1 in
       let l = ap (λ (o : Outcome). length o.coefs) q.1 ∙ resized_length (s.dims + promotes s.flavor t.flavor) n _ ∙ ap (λ (m : ℕ). 2 ^ m) (sym e) in
       record {
         small = rw e (taken s.dims n (length a) (length before) (2 ^ n) q.0).result;
@@ -240,26 +247,27 @@ module _ (s t : Shape) (a : List Float) (r : Answer) (before mid : List Float) (
         roomy = omega (arith, ap length g.left, length-append conformed_coefs (drop (length conformed_coefs) before), l);
       }
 
-  -- Conforming that is refused writes nothing, whatever was to be done.
-  pub changed_none : (f : List Float → List Float) → f [] ≡ [] → (r.number ≡ 0 → ⊥) → Gives (with_coefs f (conform_to s t a (length before))) r before mid
-  unfolding conform_to
-  changed_none f e h =
-      record {
-        answered = g.answered;
-        left = g.left ∙ ap (λ (xs : List Float). laid xs before) (refused_kept f _ _ refl e (λ z. h (ap (λ (x : Answer). x.number) g.answered ∙ z)));
-      }
-
   -- What was conformed is changed where it lies.
-  pub changed : (f : List Float → List Float) (n : ℕ) (after : List Float) → r.number ≡ 0 → n ≡ 2 ^ r.shape.dims → ((xs : List Float) → length (f xs) ≡ length xs)
-      → after ≡ laid (f (take n mid)) mid → Gives (with_coefs f (conform_to s t a (length before))) r before after
-  changed f n after z e k l =
-      let x : take n mid ≡ conformed_coefs = ap (take n) g.left ∙ take_laid n conformed_coefs before ((conformed_facts z).counted ∙ sym e) in
+  pub changed : (f : List Float → List Float) (n : ℕ) (after : List Float) → n ≡ 2 ^ u.dims → ((xs : List Float) → length (f xs) ≡ length xs)
+      → after ≡ laid (f (take n mid)) mid → Gives (with_coefs f (conform_to s t a (length before))) (Ok u) before after
+  changed f n after e k l =
+      let x : take n mid ≡ conformed_coefs = ap (take n) g.left ∙ take_laid n conformed_coefs before (conformed_facts.counted ∙ sym e) in
       record {
         answered = g.answered;
         left =
             l ∙ ap (λ (ys : List Float). laid (f ys) mid) x ∙ ap (laid (f conformed_coefs)) g.left
             ∙ laid_over (f conformed_coefs) conformed_coefs before (k conformed_coefs);
       }
+
+-- Conforming that is refused writes nothing, whatever was to be done.
+pub changed_none : (s t : Shape) (a : List Float) (e : Refusal) (before mid : List Float) → Gives (conform_to s t a (length before)) (Err e) before mid
+    → (f : List Float → List Float) → f [] ≡ [] → Gives (with_coefs f (conform_to s t a (length before))) (Err e) before mid
+unfolding conform_to
+changed_none s t a e before mid g f n =
+    record {
+      answered = g.answered;
+      left = g.left ∙ ap (λ (xs : List Float). laid xs before) (refused_kept f _ _ refl n (λ z. refuses e (sym g.answered ∙ z)));
+    }
 
 -- ---- values of one shape
 

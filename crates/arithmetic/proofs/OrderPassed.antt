@@ -1,14 +1,16 @@
 -- An order that is built once and passed down: a product that is given it takes the order's masks. Assumes nothing.
-use mathlib.Core.Path.{◌≡◌, sym, ap, ◌∙◌, subst}
+use mathlib.Core.Path.{◌≡◌, refl, sym, ap, ◌∙◌, subst}
 use mathlib.Core.List.{List, []}
 use Prim.Native.Nat.{ℕ, ◌^◌, ◌≤◌, ◌<◌}
 use native.Mathlib.Decide.{ℕ_discrete}
 use native.Mathlib.Nat.{mod-eq_of_lt}
 use native.Mathlib.Omega.{arith}
 use lib.Arith.{lt_of_le-ne}
-use lib.ListN.{length, get_or, take}
+use lib.ListN.{length, get_or, take, replicate, length-replicate}
 use lib.Pow.{pow_pos, pow-lt}
+use Rattle.std.specs.Prelude.{Result, IsOk}
 use Rattle.masks.specs.declared.flavor.Flavor.TheVariants.{Vanilla}
+use Rattle.masks.specs.declared.outcome.Refusal.{Refusal}
 use Rattle.masks.specs.declared.shape.Shape.{Shape}
 use Rattle.masks.specs.Order.{order, GivesOrder}
 use Rattle.masks.specs.Outcome.{shape_of}
@@ -40,8 +42,15 @@ passed_order d n l i h =
       | no w ↦ sym (given_few (order d) n i (omega (arith, length_order d, pow-lt (lt_of_le-ne l w))))
     ]
 
+-- There is room in an array of n items for n of them.
+pub array_room : {A : Type 0} {m n : ℕ} (x : A) → m ≤ n → m ≤ length (replicate n x)
+array_room {n = n} x h = omega (arith, length-replicate n x)
+
 -- What `put_order` has written, and the part that holds its masks.
-module _ {d r : ℕ} {before after : List ℕ} (g : GivesOrder d r before after) (h : d ≤ 9) (l : 2 ^ d ≤ length before) where
+module _ {d : ℕ} {r : Result (Unit {0}) Refusal} {before after : List ℕ} (g : GivesOrder d r before after) (h : d ≤ 9) (l : 2 ^ d ≤ length before) where
+  pub order_put : IsOk r
+  order_put = subst IsOk (sym (put_order_done g h l).0) refl
+
   pub passed_put : InOrder after d
   passed_put i k = ap (λ (xs : List ℕ). given_mask xs d i) (put_order_done g h l).1 ∙ given_order d before i l k
 

@@ -1,7 +1,7 @@
 -- Powers: which inputs are refused, exactly, the shape of the others, and how far the digits go. Assumes nothing.
 use mathlib.Core.Path.{◌≡◌, refl, sym, ap, ◌∙◌}
 use mathlib.Core.Bool.{Bool, true, false, true≢false, not, ◌&&◌, cond}
-use mathlib.Core.List.{List, [], ◌∷◌}
+use mathlib.Core.List.{List, [], ◌∷◌, ◌++◌}
 use mathlib.Core.Logic.{◌⊎◌, inl, inr}
 use Prim.Native.Nat.{ℕ, zero, suc, ◌+◌, ◌^◌, ◌/◌, ◌%◌, ◌≤◌, ◌<◌, max}
 use native.Mathlib.Nat.{pow-suc}
@@ -9,19 +9,19 @@ use native.Mathlib.Omega.{arith}
 use borrow.Author.Tests.{eq-eqb, ne_eqb, eqb-true, eqb-false, le-leb, le-ltb, lt-ltb, ltb-true, ltb-false, not-false}
 use lib.Dec.{eqb}
 use lib.Ieee.{Float}
-use lib.IntN.{ℤ, pos, negsuc}
-use lib.ListN.{length, take}
+use lib.IntN.{ℤ, pos, negsuc, nat_abs}
+use lib.ListN.{length, take, drop}
+use lib.Seq.{length-take-le}
 use lib.Signed.{lt_z, le_z}
 use mir.Syntax.{w32}
 use mir.Val.{SFits, to_z, of_z}
 use mir.ValLaws.{to_z-of_z}
 use Rattle.masks.specs.declared.flavor.Flavor.{Flavor}
 use Rattle.masks.specs.declared.flavor.Flavor.TheVariants.{Vanilla, Projective, Cl}
-use Rattle.masks.specs.declared.outcome.Answer.{Answer}
 use Rattle.masks.specs.declared.shape.Shape.{Shape}
 use Rattle.masks.specs.Flavor.{added_dims}
-use Rattle.masks.specs.Outcome.{Test, Outcome, Gives, refusal, too_many, wrong_count, no_room, unless, value, refused_value, laid}
-use Rattle.masks.specs.Shape.{with_dims, set_dims}
+use Rattle.masks.specs.Outcome.{Test, Outcome, refusal, too_many, wrong_count, no_room, unless, value, refused_value, laid}
+use Rattle.masks.specs.Shape.{with_dims}
 use Rattle.masks.proofs.ListLaws.{take_laid, both_true}
 use Rattle.masks.proofs.OrderLaws.{blades_le}
 use Rattle.masks.proofs.OutcomeLaws.{refused_first, refused_later, not_refused}
@@ -30,7 +30,6 @@ use Rattle.arithmetic.specs.Operators.{is_other, result_dims, operator_tests, mu
 use Rattle.arithmetic.specs.Dual.{ample}
 use Rattle.arithmetic.specs.Inverse.{square_of}
 use Rattle.arithmetic.specs.Power.{is_negative, size_of, is_direct, power_dims, raised, power_of, negative_planar, least_power, power_tests, power}
-use Rattle.arithmetic.proofs.KeptLaws as Kept
 use Rattle.arithmetic.proofs.OperatorsLaws.{promotes_same, multiply_length, multiply_room}
 use Rattle.arithmetic.proofs.ScalarLaws.{IsPlanar, planar_is, is_planar_lem}
 
@@ -42,6 +41,14 @@ below_zero_lem z f = rw (to_z-of_z w32 z f) (go z)
   where
     go : (y : ℤ) → lt_z y (pos 0) ≡ is_negative y
     go (pos n) = le-ltb n 0 (omega arith)
+    go (negsuc n) = refl
+
+-- The size of what is read back.
+pub size_read : (z : ℤ) → SFits w32 z → (n : ℕ) → n ≡ nat_abs (to_z w32 (of_z w32 z)) → n ≡ size_of z
+size_read z f n e = e ∙ ap nat_abs (to_z-of_z w32 z f) ∙ go z
+  where
+    go : (y : ℤ) → nat_abs y ≡ size_of y
+    go (pos n) = refl
     go (negsuc n) = refl
 
 pub from_zero : (z : ℤ) → SFits w32 z → (t : Bool) → le_z (pos 0) (to_z w32 (of_z w32 z)) ≡ t → is_negative z ≡ not t
@@ -56,6 +63,14 @@ unfolding added_dims
 added_le Vanilla = omega arith
 added_le Projective = omega arith
 added_le (Cl p n z) = omega arith
+
+-- The first power has the count of the value.
+pub first_fits : (s : Shape) (p : ℕ) (x out : List Float) → p ≡ 1 → length x ≡ 2 ^ s.dims → 2 ^ power_dims s p ≤ length out → length x ≤ length out
+unfolding power_dims is_direct
+first_fits s p x out e l h = rw l (rw (eq-eqb p 1 e) at h)
+
+pub first_taken : (s : Shape) (p : ℕ) (x out : List Float) → p ≡ 1 → length x ≡ 2 ^ s.dims → 2 ^ power_dims s p ≤ length out → length (take (length x) out) ≡ length x
+first_taken s p x out e l h = length-take-le (length x) out (first_fits s p x out e l h)
 
 -- ---- the digits
 
@@ -86,16 +101,10 @@ raised_next s (suc k) n r x h l = (k, half n k l, refl)
 
 -- ---- values at the front of an output
 
--- A value that is accepted is copied.
-pub copied_front : (s : Shape) (a out after : List Float) (r : Answer) → Kept.Accepted s a (length out) → Gives (set_dims s s.dims a (length out)) r out after → after ≡ laid a out
-copied_front s a out after r f g = Kept.copy_laid s a r out after g (Kept.copy_done s a r out after g f)
-
 -- A value that a buffer holds at its front is copied on from there.
-pub copied_on : (s : Shape) (n : ℕ) (xs buf held out after : List Float) (r : Answer) → s.dims ≤ 9 → n ≡ 2 ^ s.dims → length xs ≡ 2 ^ s.dims → 2 ^ s.dims ≤ length out
-    → held ≡ laid xs buf → Gives (set_dims s s.dims (take n held) (length out)) r out after → after ≡ laid xs out
-copied_on s n xs buf held out after r h c l m e g =
-    let q : take n held ≡ xs = ap (take n) e ∙ take_laid n xs buf (l ∙ sym c) in
-    copied_front s (take n held) out after r (record { small = h; counted = ap length q ∙ l; roomy = m }) g ∙ ap (λ (ys : List Float). laid ys out) q
+pub copied_on : (n : ℕ) (xs buf held copy out : List Float) → length xs ≡ n → held ≡ laid xs buf → copy ≡ take n held → copy ++ drop n out ≡ laid xs out
+copied_on n xs buf held copy out l e q =
+    ap (λ (ys : List Float). ys ++ drop n out) (q ∙ ap (take n) e ∙ take_laid n xs buf l) ∙ ap (λ (k : ℕ). xs ++ drop k out) (sym l)
 
 -- ---- `*` by a value of no more dimensions
 
@@ -154,10 +163,10 @@ given_none : (k : ℕ) → (0 ≡ k → ⊥) → refusal [] ≡ k → ⊥
 unfolding refusal
 given_none k h e = h e
 
-number_of : (k : ℕ) (o : Outcome) → o.number ≡ 0 → (unless refused_value k o).number ≡ k
+number_is : (k : ℕ) (o : Outcome) → o.number ≡ 0 → (unless refused_value k o).number ≡ k
 unfolding unless
-number_of zero o e = e
-number_of (suc k) o e = refl
+number_is zero o e = e
+number_is (suc k) o e = refl
 
 -- ---- refusals, exactly
 
@@ -190,7 +199,7 @@ module _ (s : Shape) (p : ℤ) (a : List Float) (room : ℕ) where
 
   pub power_number : (power s p a room).number ≡ refusal (power_tests s p a room)
   unfolding power
-  power_number = number_of (refusal (power_tests s p a room)) _ refl
+  power_number = number_is (refusal (power_tests s p a room)) _ refl
 
   -- The last two tests give 5 or 6.
   given_last : (k : ℕ) → (0 ≡ k → ⊥) → (5 ≡ k → ⊥) → (6 ≡ k → ⊥) → refusal (planar ∷ least ∷ []) ≡ k → ⊥

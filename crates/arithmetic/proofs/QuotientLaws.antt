@@ -9,12 +9,13 @@ use borrow.Author.Tests.{le-ltb, eq-eqb}
 use lib.Dec.{eqb}
 use lib.Ieee.{Float, nan}
 use lib.ListN.{length, get_or}
+use Rattle.std.specs.Prelude.{Err}
 use Rattle.masks.specs.declared.flavor.Flavor.TheVariants.{Vanilla, Projective}
 use Rattle.masks.specs.declared.shape.Shape.{Shape}
-use Rattle.masks.specs.declared.outcome.Answer.{Answer}
-use Rattle.masks.specs.Outcome.{Outcome, Gives, refusal, too_many, wrong_count, no_room, unless, value, refused_value, shape_of, answer_of, pair_tests}
+use Rattle.masks.specs.declared.outcome.Refusal.{Refusal}
+use Rattle.masks.specs.Outcome.{Outcome, Gives, refusal, too_many, wrong_count, no_room, number_of, unless, value, refused_value, shape_of, pair_tests}
 use Rattle.masks.specs.Shape.{promotes}
-use Rattle.masks.proofs.OutcomeLaws.{later_same, refused_already, unless_done, gives_refused, passed}
+use Rattle.masks.proofs.OutcomeLaws.{later_same, refused_already, refuses, unless_done, gives_refused, passed}
 use Rattle.arithmetic.specs.declared.scalar.Complex.{Complex}
 use Rattle.arithmetic.specs.declared.scalar.ScalarTest.{ScalarTest}
 use Rattle.arithmetic.specs.declared.scalar.ScalarTest.TheVariants.{Scalar, Planar, Neither}
@@ -27,7 +28,7 @@ use Rattle.arithmetic.specs.Quotient.{divisor_by, quotient_dims, quotient}
 use Rattle.arithmetic.proofs.KeptLaws.{Accepted, accepted_kept}
 use Rattle.arithmetic.proofs.ScalarLaws.{test_scalar, IsPlanar, planar_is, is_planar_lem}
 use Rattle.arithmetic.proofs.OperatorsLaws.{dims_by_scalar, multiply_number}
-use Rattle.arithmetic.proofs.InverseLaws.{general_length, never_five, five_last, last_five, ends_refused, unless_five, five_unless}
+use Rattle.arithmetic.proofs.InverseLaws.{general_length, never_five, five_last, last_five, unless_five, five_unless}
 
 -- ---- the dimensions of a quotient
 
@@ -75,12 +76,12 @@ scalar_tests d e count countRight room h c =
 abbrev pub planar_number : Shape → Shape → List Float → List Float → ℕ → ℕ
 planar_number s t a b room = refusal (operator_tests s t a b room ++ record { fails = true; number = 5 } ∷ [])
 
-module _ (s t : Shape) (a b : List Float) (room n : ℕ) (e : n ≡ refusal (operator_tests s t a b room)) where
-  pub planar_refused : (n ≡ 0 → ⊥) → n ≡ planar_number s t a b room
-  planar_refused h = e ∙ sym (refused_already (operator_tests s t a b room) _ (λ z. h (e ∙ z)))
+module _ (s t : Shape) (a b : List Float) (room : ℕ) where
+  pub planar_refused : (e : Refusal) → refusal (operator_tests s t a b room) ≡ number_of e → number_of e ≡ planar_number s t a b room
+  planar_refused e h = sym h ∙ sym (refused_already (operator_tests s t a b room) _ (λ z. refuses e (sym h ∙ z)))
 
-  pub planar_five : n ≡ 0 → 5 ≡ planar_number s t a b room
-  planar_five z = sym (last_five (operator_tests s t a b room) tt true (sym e ∙ z) refl)
+  pub planar_five : refusal (operator_tests s t a b room) ≡ 0 → 5 ≡ planar_number s t a b room
+  planar_five z = sym (last_five (operator_tests s t a b room) tt true z refl)
 
 -- One refusal under another of the same number.
 unless_twice : (k n : ℕ) (o : Outcome) → n ≡ k → unless refused_value n (unless refused_value k o) ≡ unless refused_value k o
@@ -104,12 +105,9 @@ module _ (s t : Shape) (a b : List Float) (room : ℕ) (l : length b ≡ 2 ^ t.d
       ∙ ap (λ (k : ℕ). unless refused_value k (value s (scaled (reciprocal f) a))) (scalar_tests s.dims t.dims (length a) (length b) room h l)
 
   -- By a planar value it is refused: 5, where no lower number applies.
-  pub gives_planar : (c : Complex) (n : ℕ) (r : Answer) (out : List Float) → test_of t b ≡ Planar c
-      → n ≡ planar_number s t a b room → r ≡ answer_of (refused_value n) → Gives (quotient s t a b room) r out out
+  pub gives_planar : (c : Complex) (e : Refusal) (out : List Float) → test_of t b ≡ Planar c → number_of e ≡ planar_number s t a b room → Gives (quotient s t a b room) (Err e) out out
   unfolding if_scalar was_planar divisor_by
-  gives_planar c n r out e k q =
-      rw (quotient_by (Planar c) e)
-      (gives_refused _ n _ r out k (λ z. ends_refused (operator_tests s t a b room) tt (sym k ∙ z)) q)
+  gives_planar c e out q k = rw (quotient_by (Planar c) q) (gives_refused _ e _ out (sym k))
 
   -- What refuses the quotient is what refuses the product with the inverse.
   multiplied_again : unless refused_value (number_by Neither) (multiplication s t a (general_inverse t b) room) ≡ multiplication s t a (general_inverse t b) room

@@ -8,8 +8,8 @@ use lib.Count.{ones}
 use lib.Dec.{ltb}
 use lib.Ieee.{Float, nan, inf, fin, neg}
 use lib.ListN.{length, get_or, take}
+use Rattle.std.specs.Prelude.{Ok}
 use Rattle.masks.specs.declared.shape.Shape.{Shape}
-use Rattle.masks.specs.declared.outcome.Answer.{Answer}
 use Rattle.masks.specs.Order.{order}
 use Rattle.masks.specs.Outcome.{Gives, laid, value}
 use Rattle.masks.specs.Shape.{coef, negated_if, set_dims}
@@ -78,17 +78,17 @@ inv_reversed_lem d a = map_same _ _ (λ m. negated_not (low m) (coef d a m)) (or
 -- ---- the call
 
 -- A copy that is done, of a call that keeps the shape.
-module _ (s : Shape) (a : List Float) (r : Answer) (before mid : List Float) (g : Gives (set_dims s s.dims a (length before)) r before mid) (z : r.number ≡ 0) where
+module _ (s : Shape) (a : List Float) (t : Shape) (before mid : List Float) (g : Gives (set_dims s s.dims a (length before)) (Ok t) before mid) where
   -- What is changed at the front of the output is the call's value.
   pub copy_turned : (f : List Float → List Float) (after : List Float) → ((xs : List Float) → length (f xs) ≡ 2 ^ s.dims)
-      → after ≡ laid (f (take (2 ^ s.dims) mid)) mid → Gives (kept f s a (length before)) r before after
+      → after ≡ laid (f (take (2 ^ s.dims) mid)) mid → Gives (kept f s a (length before)) (Ok t) before after
   copy_turned f after l e =
-      let n : length a ≡ 2 ^ s.dims = (copy_accepted s a r before mid g z).counted in
-      copy_changed s a r before mid g f after z (l a ∙ sym n) (e ∙ ap (λ (k : ℕ). laid (f (take k mid)) mid) (sym n))
+      let n : length a ≡ 2 ^ s.dims = (copy_accepted s a t before mid g).counted in
+      copy_changed s a t before mid g f after (l a ∙ sym n) (e ∙ ap (λ (k : ℕ). laid (f (take k mid)) mid) (sym n))
 
   -- The output has room for the change.
   pub copy_roomy : length mid ≡ length before → (s.dims ≤ 9) × (2 ^ s.dims ≤ length mid)
-  copy_roomy e = let f = copy_accepted s a r before mid g z in (f.small, omega (arith, f.roomy))
+  copy_roomy e = let f = copy_accepted s a t before mid g in (f.small, omega (arith, f.roomy))
 
 -- The same of the call.
 pub reverse_twice : (s : Shape) (a : List Float) (room : ℕ) → Accepted s a room → reverse s (reverse s a room).coefs room ≡ value s a

@@ -1,13 +1,11 @@
 -- Equality and order, as the reference has them. Assumes nothing.
 use Rattle.std.specs.Prelude.{Bool, true, false, ◌&&◌, ◌||◌, cond, List, [], ◌∷◌, ℕ, ltb, Float, length}
 use Rattle.std.specs.Float.Ieee.{eq, lt, is_nan}
+use Rattle.std.specs.declared.cmp.Ordering.{Ordering}
+use Rattle.std.specs.declared.cmp.Ordering.TheVariants.{Less, Equal, Greater}
 use Rattle.masks.specs.declared.shape.Shape.{Shape}
 use Rattle.masks.specs.Outcome.{Test, refusal, too_many, wrong_count, unless}
 use Rattle.arithmetic.specs.declared.scalar.ScalarTest.{ScalarTest}
-use Rattle.arithmetic.specs.declared.outcome.YesNo.{YesNo}
-use Rattle.arithmetic.specs.declared.outcome.Ordering.{Ordering}
-use Rattle.arithmetic.specs.declared.outcome.Ordering.TheVariants.{Less, Equal, Greater}
-use Rattle.arithmetic.specs.declared.outcome.Ordered.{Ordered}
 use Rattle.arithmetic.specs.Scalar.{test_of, if_scalar}
 
 -- The tests of a comparison.
@@ -30,6 +28,11 @@ same_places [] [] = true
 same_places [] (y ∷ b) = false
 same_places (x ∷ a) [] = false
 same_places (x ∷ a) (y ∷ b) = same_number x y && same_places a b
+
+-- A yes or no.
+pub record YesNo : Type 0 where
+  pub number : ℕ
+  pub yes : Bool
 
 -- A refusal has its number, and no.
 abbrev pub refused_yes_no : ℕ → YesNo
@@ -70,6 +73,11 @@ compared_counts m n = cond (ltb m n) Less (cond (ltb n m) Greater Equal)
 -- By count, then the first place that differs.
 abbrev pub compared_lists : List Float → List Float → Ordering
 compared_lists a b = or_else (compared_counts (length a) (length b)) (compared_places a b)
+
+-- An order.
+pub record Ordered : Type 0 where
+  pub number : ℕ
+  pub order : Ordering
 
 -- A refusal has its number, and equal.
 abbrev pub refused_ordered : ℕ → Ordered

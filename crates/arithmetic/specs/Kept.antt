@@ -1,8 +1,9 @@
 -- Calls on one value that keep its shape. Assumes nothing.
-use Rattle.std.specs.Prelude.{◌≡◌, List, [], ◌∷◌, ◌++◌, ℕ, ◌-◌, ◌^◌, Float, length, get_or, set, take, replicate}
+use Rattle.std.specs.Prelude.{◌≡◌, Result, List, [], ◌∷◌, ◌++◌, ℕ, ◌-◌, ◌^◌, Float, length, get_or, set, take, replicate}
 use Rattle.std.specs.Float.{nan}
+use Rattle.masks.specs.declared.outcome.Refusal.{Refusal}
 use Rattle.masks.specs.declared.shape.Shape.{Shape}
-use Rattle.masks.specs.Outcome.{Test, Outcome, refusal, value_tests, no_room, unless, value, refused_value, laid, nought}
+use Rattle.masks.specs.Outcome.{IsAnswer, Test, Outcome, refusal, value_tests, no_room, unless, value, refused_value, laid, nought}
 use Rattle.arithmetic.specs.declared.outcome.Taken.{Taken}
 
 -- The tests of such a call, in an output of `room` numbers.
@@ -40,11 +41,11 @@ take_scalar s a room =
       scalar = unless (λ k. nought) (refusal (kept_tests s a room)) (get_or a 0 nan);
     }
 
--- The answer has the number, the shape and the scalar; the coefficients are in the output.
+-- What is answered has the shape and the scalar; the coefficients are in the output.
 abbrev pub taken_of : Halves → Taken
-taken_of o = record { number = o.outcome.number; shape = o.outcome.shape; value = o.scalar }
+taken_of o = record { shape = o.outcome.shape; value = o.scalar }
 
 -- The answer r, and the output's numbers before and after, are those of the value without its scalar.
-pub record GivesTaken (o : Halves) (r : Taken) (before after : List Float) : Type 0 where
-  pub answered : r ≡ taken_of o
+pub record GivesTaken (o : Halves) (r : Result Taken Refusal) (before after : List Float) : Type 0 where
+  pub answered : IsAnswer o.outcome.number (taken_of o) r
   pub left : after ≡ laid o.outcome.coefs before

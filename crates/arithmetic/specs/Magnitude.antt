@@ -6,9 +6,8 @@ use Rattle.clifford.specs.Blade.{has}
 use Rattle.clifford.specs.Metric.{shared}
 use Rattle.masks.specs.declared.flavor.Flavor.{Flavor}
 use Rattle.masks.specs.declared.shape.Shape.{Shape}
-use Rattle.masks.specs.declared.outcome.Real.{Real}
 use Rattle.masks.specs.Flavor.{metric_of}
-use Rattle.masks.specs.Outcome.{refusal, value_tests, unless, nought, refused_real}
+use Rattle.masks.specs.Outcome.{Real, refusal, value_tests, unless, nought, refused_real}
 use Rattle.product.specs.Pairwise.{mask_at}
 
 -- w: the product of the flavor metrics of the mask's bits, with no swap sign.

@@ -6,8 +6,6 @@ use Rattle.masks.specs.declared.shape.Shape.{Shape}
 use Rattle.masks.specs.Outcome.{Test, Outcome, Pair, refusal, pair_tests, unless, refused_value}
 use Rattle.masks.specs.Shape.{promotes, conform_to, conform}
 use Rattle.product.specs.Products.{general_product}
-use Rattle.arithmetic.specs.declared.operators.Sum.{Sum}
-use Rattle.arithmetic.specs.declared.operators.Sum.TheVariants.{Plus, Minus}
 use Rattle.arithmetic.specs.Scalar.{is_scalar, test_of, if_scalar}
 use Rattle.arithmetic.specs.Scale.{scaled}
 
@@ -40,6 +38,11 @@ unfoldable pub multiplication : Shape → Shape → List Float → List Float �
 multiplication s t a b room =
     unless refused_value (refusal (operator_tests s t a b room))
     (if_scalar (test_of t b) (λ f. with_coefs (scaled f) (conform_to s t a room)) (general_product s t a b room).outcome)
+
+-- A sum or a difference.
+pub data Sum : Type 0 where
+  Plus : Sum
+  Minus : Sum
 
 -- A sum or a difference of two numbers.
 abbrev pub summed : Sum → Float → Float → Float

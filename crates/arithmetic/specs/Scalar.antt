@@ -8,7 +8,6 @@ use Rattle.masks.specs.declared.shape.Shape.{Shape}
 use Rattle.masks.specs.Outcome.{Test, refusal, value_tests, unless, nought}
 use Rattle.arithmetic.specs.declared.scalar.ScalarTest.{ScalarTest}
 use Rattle.arithmetic.specs.declared.scalar.ScalarTest.TheVariants.{Scalar, Planar, Neither}
-use Rattle.arithmetic.specs.declared.scalar.Tested.{Tested}
 
 -- A number that equals zero, of either sign.
 abbrev pub is_zero : Float → Bool
@@ -55,6 +54,11 @@ was_planar Neither = false
 -- 5: An inverse is wanted of a planar value.
 abbrev pub no_inverse : ScalarTest → Test
 no_inverse t = record { fails = was_planar t; number = 5 }
+
+-- What the test answers.
+pub record Tested : Type 0 where
+  pub number : ℕ
+  pub test : ScalarTest
 
 -- A refusal answers neither.
 abbrev pub refused_test : ℕ → Tested

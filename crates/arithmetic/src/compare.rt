@@ -1,30 +1,31 @@
 // Equality and order, as the reference has them.
-ghost use Rattle.std.specs.Prelude.{◌≡◌, true, ◌||◌, ◌+◌, ◌^◌, ◌≤◌, ◌<◌, length, get_or, drop};
+ghost use Rattle.std.specs.Prelude.{◌≡◌, true, ◌&&◌, ◌||◌, ◌^◌, ◌≤◌, ◌<◌, length, get_or, drop};
 ghost use Rattle.std.specs.Float.{nan};
 ghost use Rattle.std.specs.Float.Ieee.{eq};
 ghost use Rattle.masks.specs.declared.flavor.Flavor.TheVariants.{Vanilla};
-ghost use Rattle.masks.specs.Outcome.{refusal, shape_of};
+ghost use Rattle.masks.specs.Outcome.{IsAnswer, refusal, shape_of};
 ghost use Rattle.arithmetic.specs.Scalar.{is_scalar, test_of};
 ghost use Rattle.arithmetic.specs.Compare.{compared_tests, answers_agree, same_number, same_places, equals, compared_nans, compared_numbers, compared_places, compared_lists, compared_by, compared};
 
-use super::outcome::{Ordered, Ordering, YesNo};
 use super::scalar::is_scalar;
 use masks::flavor::Flavor;
-use masks::outcome::{DONE, pair_refusal, shape_of};
+use masks::outcome::{Refusal, pair_refusal, shape_of};
 use masks::shape::Shape;
+use std::cmp::Ordering;
 
-// The number that a comparison is refused with, or 0: room for any value is never too little.
-fn compare_refusal(left: Shape, right: Shape, a: &[f64], b: &[f64]) -> u8
-    ensures { result ≡ refusal (compared_tests left right a.now b.now) }
+// Whether a comparison is refused: room for any value is never too little.
+fn compare_refusal(left: Shape, right: Shape, a: &[f64], b: &[f64]) -> Result<(), Refusal>
+    ensures { IsAnswer (refusal (compared_tests left right a.now b.now)) tt result }
 {
     pair_refusal(left.dims, right.dims, left.dims, a.len(), b.len(), 512)
 }
 
-// NaN is the one number that doesn't equal itself.
+// NaN is equal to NaN.
+#[tactic(auto, unfolding(crate::specs::Compare::same_number))]
 fn same_number(x: f64, y: f64) -> bool
     ensures { result ≡ same_number x y }
 {
-    x == y || (x != x && y != y)
+    x == y || (x.is_nan() && y.is_nan())
 }
 
 // Whether two scalars are equal: of one count NaN is equal to NaN.
@@ -52,27 +53,18 @@ fn equal_values(left: Shape, right: Shape, a: &[f64], b: &[f64]) -> bool
 }
 
 // `==` of values of these dimensions: flavors play no part in it.
-fn eq_dims(dims: u8, other: u8, a: &[f64], b: &[f64]) -> YesNo
-    ensures { result ≡ equals (shape_of dims Vanilla) (shape_of other Vanilla) a.now b.now }
+fn eq_dims(dims: u8, other: u8, a: &[f64], b: &[f64]) -> Result<bool, Refusal>
+    ensures { IsAnswer (equals (shape_of dims Vanilla) (shape_of other Vanilla) a.now b.now).number (equals (shape_of dims Vanilla) (shape_of other Vanilla) a.now b.now).yes result }
 {
-    let left = shape_of(dims, Flavor::Vanilla);
-    let right = shape_of(other, Flavor::Vanilla);
-    let no = compare_refusal(left, right, a, b);
-    if no != DONE {
-        return YesNo {
-            number: no,
-            yes: false,
-        };
-    }
-    YesNo {
-        number: DONE,
-        yes: equal_values(left, right, a, b),
-    }
+    let plain = shape_of(dims, Flavor::Vanilla);
+    let plain_right = shape_of(other, Flavor::Vanilla);
+    compare_refusal(plain, plain_right, a, b)?;
+    Ok(equal_values(plain, plain_right, a, b))
 }
 
 // `==` as the reference has it: any two values that are not scalar are equal.
-pub fn eq(left: Shape, right: Shape, a: &[f64], b: &[f64]) -> YesNo
-    ensures { result ≡ equals left right a.now b.now }
+pub fn eq(left: Shape, right: Shape, a: &[f64], b: &[f64]) -> Result<bool, Refusal>
+    ensures { IsAnswer (equals left right a.now b.now).number (equals left right a.now b.now).yes result }
 {
     eq_dims(left.dims, right.dims, a, b)
 }
@@ -81,28 +73,16 @@ pub fn eq(left: Shape, right: Shape, a: &[f64], b: &[f64]) -> YesNo
 fn compare_nan(x: f64, y: f64) -> Ordering
     ensures { result ≡ compared_nans x y }
 {
-    if x != x {
-        if y != y {
-            return Ordering::Equal;
-        }
-        return Ordering::Greater;
-    }
-    if y != y {
-        return Ordering::Less;
-    }
-    Ordering::Equal
+    x.is_nan().cmp(&y.is_nan())
 }
 
 fn compare_numbers(x: f64, y: f64) -> Ordering
     ensures { result ≡ compared_numbers x y }
 {
-    if x < y {
-        return Ordering::Less;
+    match x.partial_cmp(&y) {
+        Some(order) => order,
+        None => compare_nan(x, y),
     }
-    if y < x {
-        return Ordering::Greater;
-    }
-    compare_nan(x, y)
 }
 
 // The places from `first` on: the first that differs decides.
@@ -110,25 +90,21 @@ fn compare_from(a: &[f64], b: &[f64], first: usize) -> Ordering
     requires { length a.now ≡ length b.now }
     ensures { result ≡ compared_places (drop first a.now) (drop first b.now) }
 {
-    let mut i = first;
-    while i < a.len() {
-        let o = compare_numbers(a[i], b[i]);
-        match o {
-            Ordering::Less => return Ordering::Less,
+    for i in first..a.len() {
+        match compare_numbers(a[i], b[i]) {
             Ordering::Equal => {}
-            Ordering::Greater => return Ordering::Greater,
+            order => return order,
         }
-        i += 1;
     }
     Ordering::Equal
 }
 
-// Whether the four numbers from place i on are equal.
-fn four_equal(a: &[f64], b: &[f64], i: usize) -> bool
-    requires { (i + 4 ≤ length a.now) × (length a.now ≡ length b.now) }
-    ensures { result ≡ true → compared_places (drop i a.now) (drop i b.now) ≡ compared_places (drop (i + 4) a.now) (drop (i + 4) b.now) }
+// Whether the first four numbers are equal, with no branch between them.
+pub(crate) fn four_equal(a: &[f64], b: &[f64]) -> bool
+    requires { (4 ≤ length a.now) × (4 ≤ length b.now) }
+    ensures { result ≡ (((eq (get_or a.now 0 nan) (get_or b.now 0 nan) && eq (get_or a.now 1 nan) (get_or b.now 1 nan)) && eq (get_or a.now 2 nan) (get_or b.now 2 nan)) && eq (get_or a.now 3 nan) (get_or b.now 3 nan)) }
 {
-    (a[i] == b[i]) & (a[i + 1] == b[i + 1]) & (a[i + 2] == b[i + 2]) & (a[i + 3] == b[i + 3])
+    (a[0] == b[0]) & (a[1] == b[1]) & (a[2] == b[2]) & (a[3] == b[3])
 }
 
 // The first place that differs decides; four that are equal are passed at a time.
@@ -136,14 +112,13 @@ fn compare_by_fours(a: &[f64], b: &[f64]) -> Ordering
     requires { length a.now ≡ length b.now }
     ensures { result ≡ compared_places a.now b.now }
 {
-    let mut i: usize = 0;
-    while i + 4 <= a.len() {
-        if !four_equal(a, b, i) {
-            return compare_from(a, b, i);
+    let fours = a.len() / 4;
+    for k in 0..fours {
+        if !four_equal(&a[4 * k..], &b[4 * k..]) {
+            return compare_from(a, b, 4 * k);
         }
-        i += 4;
     }
-    compare_from(a, b, i)
+    compare_from(a, b, 4 * fours)
 }
 
 // The same, where place 0 is looked at first.
@@ -165,10 +140,7 @@ fn compare_counts(a: &[f64], b: &[f64]) -> Ordering
     requires { length a.now ≡ length b.now → ⊥ }
     ensures { result ≡ compared_lists a.now b.now }
 {
-    if a.len() < b.len() {
-        return Ordering::Less;
-    }
-    Ordering::Greater
+    a.len().cmp(&b.len())
 }
 
 // The order of two values that are not refused. Where the counts are equal the first place that differs decides between scalars too.
@@ -189,17 +161,9 @@ fn compare_values(left: Shape, right: Shape, a: &[f64], b: &[f64]) -> Ordering
 }
 
 // `cmp`: scalars by their numbers, NaN greatest; else by count, then by the first place that differs.
-pub fn cmp(left: Shape, right: Shape, a: &[f64], b: &[f64]) -> Ordered
-    ensures { result ≡ compared left right a.now b.now }
+pub fn cmp(left: Shape, right: Shape, a: &[f64], b: &[f64]) -> Result<Ordering, Refusal>
+    ensures { IsAnswer (compared left right a.now b.now).number (compared left right a.now b.now).order result }
 {
-    let no = compare_refusal(left, right, a, b);
-    if no != DONE {
-        let order = Ordering::Equal;
-        return Ordered { number: no, order };
-    }
-    let order = compare_values(left, right, a, b);
-    Ordered {
-        number: DONE,
-        order,
-    }
+    compare_refusal(left, right, a, b)?;
+    Ok(compare_values(left, right, a, b))
 }

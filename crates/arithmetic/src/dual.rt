@@ -9,29 +9,22 @@ use super::kept::kept_refusal;
 use super::operators::{joined_dims, joined_refusal, mul_by};
 use masks::build::pseudoscalar;
 use masks::flavor::Flavor;
-use masks::order::{blade_count, put_order};
-use masks::outcome::{Answer, DONE, done, refused};
+use masks::order::{blades_or_none, put_order};
+use masks::outcome::Refusal;
 use masks::shape::Shape;
 use product::mode::Mode;
 use product::products::multiply;
 
-// The dual, at the front of the output. An array for the unit is lent.
-fn put_dual_in(given: &[u16], shape: Shape, a: &[f64], unit: &mut [f64], out: &mut [f64])
+// The dual, at the front of the output. The array for the unit holds N numbers.
+fn put_dual_in<const N: usize>(given: &[u16], shape: Shape, a: &[f64], out: &mut [f64])
     requires in_order { InOrder given.now shape.dims }
-    requires dims_bound { (shape.dims ≤ 9) × (length a.now ≡ 2 ^ shape.dims) × (length a.now ≤ length unit.old) × (2 ^ shape.dims ≤ length out.old) }
+    requires dims_bound { (shape.dims ≤ 9) × (length a.now ≡ 2 ^ shape.dims) × (length a.now ≤ N) × (2 ^ shape.dims ≤ length out.old) × (N ≤ 512) }
     ensures { out.new ≡ laid (dual_of shape.dims a.now) out.old }
 {
     let vanilla = shape.with_flavor(Flavor::Vanilla);
-    pseudoscalar(shape.dims, 1.0, Flavor::Vanilla, unit);
-    multiply(
-        given,
-        Mode::All,
-        vanilla,
-        vanilla,
-        a,
-        &unit[0..a.len()],
-        out,
-    );
+    let mut unit = [0.0; N];
+    let _ = pseudoscalar(shape.dims, 1.0, Flavor::Vanilla, &mut unit);
+    let _ = multiply(given, Mode::All, vanilla, vanilla, a, &unit[..a.len()], out);
 }
 
 // The same, in an array as long as the dimensions want.
@@ -41,23 +34,22 @@ fn put_dual(given: &[u16], shape: Shape, a: &[f64], out: &mut [f64])
     ensures { out.new ≡ laid (dual_of shape.dims a.now) out.old }
 {
     if a.len() <= 64 {
-        let mut unit = [0.0; 64];
-        put_dual_in(given, shape, a, &mut unit, out);
-        return;
+        put_dual_in::<64>(given, shape, a, out);
+    } else {
+        put_dual_in::<512>(given, shape, a, out);
     }
-    let mut unit = [0.0; 512];
-    put_dual_in(given, shape, a, &mut unit, out);
 }
 
-// The antidual, at the front of the output. An array for the unit is lent.
-fn put_antidual_in(given: &[u16], shape: Shape, a: &[f64], unit: &mut [f64], out: &mut [f64])
+// The antidual, at the front of the output. The array for the unit holds N numbers.
+fn put_antidual_in<const N: usize>(given: &[u16], shape: Shape, a: &[f64], out: &mut [f64])
     requires in_order { InOrder given.now shape.dims }
-    requires dims_bound { (shape.dims ≤ 9) × (length a.now ≡ 2 ^ shape.dims) × (length a.now ≤ length unit.old) × (2 ^ shape.dims ≤ length out.old) }
+    requires dims_bound { (shape.dims ≤ 9) × (length a.now ≡ 2 ^ shape.dims) × (length a.now ≤ N) × (2 ^ shape.dims ≤ length out.old) × (N ≤ 512) }
     ensures { out.new ≡ laid (antidual_of shape.dims a.now) out.old }
 {
     let vanilla = shape.with_flavor(Flavor::Vanilla);
-    pseudoscalar(shape.dims, 1.0, Flavor::Vanilla, unit);
-    mul_by(given, vanilla, vanilla, &unit[0..a.len()], a, out);
+    let mut unit = [0.0; N];
+    let _ = pseudoscalar(shape.dims, 1.0, Flavor::Vanilla, &mut unit);
+    let _ = mul_by(given, vanilla, vanilla, &unit[..a.len()], a, out);
 }
 
 // The same, in an array as long as the dimensions want.
@@ -67,43 +59,33 @@ fn put_antidual(given: &[u16], shape: Shape, a: &[f64], out: &mut [f64])
     ensures { out.new ≡ laid (antidual_of shape.dims a.now) out.old }
 {
     if a.len() <= 64 {
-        let mut unit = [0.0; 64];
-        put_antidual_in(given, shape, a, &mut unit, out);
-        return;
+        put_antidual_in::<64>(given, shape, a, out);
+    } else {
+        put_antidual_in::<512>(given, shape, a, out);
     }
-    let mut unit = [0.0; 512];
-    put_antidual_in(given, shape, a, &mut unit, out);
 }
 
 // The product with the Vanilla pseudo unit on the right, metric Vanilla, own flavor kept.
-pub fn dual(shape: Shape, a: &[f64], out: &mut [f64]) -> Answer
+pub fn dual(shape: Shape, a: &[f64], out: &mut [f64]) -> Result<Shape, Refusal>
     ensures { Gives (dual shape a.now (length out.old)) result out.old out.new }
 {
-    let no = kept_refusal(shape, a, out.len());
-    if no != DONE {
-        return refused(no);
-    }
-    let none: [u16; 0] = [];
-    put_dual(&none, shape, a, out);
-    done(shape)
+    kept_refusal(shape, a, out.len())?;
+    put_dual(&[], shape, a, out);
+    Ok(shape)
 }
 
 // The Vanilla pseudo unit `*` the value read as Vanilla, own flavor put back after.
-pub fn antidual(shape: Shape, a: &[f64], out: &mut [f64]) -> Answer
+pub fn antidual(shape: Shape, a: &[f64], out: &mut [f64]) -> Result<Shape, Refusal>
     ensures { Gives (antidual shape a.now (length out.old)) result out.old out.new }
 {
-    let no = kept_refusal(shape, a, out.len());
-    if no != DONE {
-        return refused(no);
-    }
-    let none: [u16; 0] = [];
-    put_antidual(&none, shape, a, out);
-    done(shape)
+    kept_refusal(shape, a, out.len())?;
+    put_antidual(&[], shape, a, out);
+    Ok(shape)
 }
 
-// The antidual of the outer product of the duals, each at its own dimensions. Arrays for the three are lent, and the orders of the left dimensions, of
-// the right ones and of those that the values meet in.
-fn regressive_in(
+// The antidual of the outer product of the duals, each at its own dimensions, by the orders of the left dimensions, of the right ones and of those that
+// the values meet in. The arrays for the duals hold N numbers, that for their product M.
+fn regressive_in<const N: usize, const M: usize>(
     own: &[u16],
     theirs: &[u16],
     joined: &[u16],
@@ -111,32 +93,31 @@ fn regressive_in(
     right: Shape,
     a: &[f64],
     b: &[f64],
-    x: &mut [f64],
-    y: &mut [f64],
-    z: &mut [f64],
     out: &mut [f64],
-) -> Answer
+) -> Result<Shape, Refusal>
     requires in_order { InOrder own.now left.dims × InOrder theirs.now right.dims × InOrder joined.now (meeting_dims left right) }
     requires dims_bound { (left.dims ≤ 9) × (right.dims ≤ 9) × (meeting_dims left right ≤ 9) }
     requires a_len { (length a.now ≡ 2 ^ left.dims) × (length b.now ≡ 2 ^ right.dims) × (2 ^ meeting_dims left right ≤ length out.old) }
-    requires a_in_bounds { (length a.now ≤ length x.old) × (length b.now ≤ length y.old) × (2 ^ meeting_dims left right ≤ length z.old) }
+    requires a_in_bounds { (length a.now ≤ N) × (length b.now ≤ N) × (2 ^ meeting_dims left right ≤ M) × (N ≤ 512) × (M ≤ 512) }
     ensures { Gives (regressive_product left right a.now b.now (length out.old)) result out.old out.new }
 {
-    put_dual(own, left, a, x);
-    put_dual(theirs, right, b, y);
+    let mut x = [0.0; N];
+    let mut y = [0.0; N];
+    let mut z = [0.0; M];
+    put_dual(own, left, a, &mut x);
+    put_dual(theirs, right, b, &mut y);
     let p = multiply(
         joined,
         Mode::Outer,
         left,
         right,
-        &x[0..a.len()],
-        &y[0..b.len()],
-        z,
-    );
-    let shape = p.shape;
-    let n = blade_count(shape.dims).count;
-    put_antidual(joined, shape, &z[0..n], out);
-    done(shape)
+        &x[..a.len()],
+        &y[..b.len()],
+        &mut z,
+    )?;
+    let n = blades_or_none(p.shape.dims);
+    put_antidual(joined, p.shape, &z[..n], out);
+    Ok(p.shape)
 }
 
 // The same, in arrays as long as the dimensions want.
@@ -149,26 +130,16 @@ fn regressive_by(
     a: &[f64],
     b: &[f64],
     out: &mut [f64],
-) -> Answer
+) -> Result<Shape, Refusal>
     requires in_order { InOrder own.now left.dims × InOrder theirs.now right.dims × InOrder joined.now (meeting_dims left right) }
     requires dims_bound { (left.dims ≤ 9) × (right.dims ≤ 9) × (meeting_dims left right ≤ 9) }
     requires a_len { (length a.now ≡ 2 ^ left.dims) × (length b.now ≡ 2 ^ right.dims) × (2 ^ meeting_dims left right ≤ length out.old) }
     ensures { Gives (regressive_product left right a.now b.now (length out.old)) result out.old out.new }
 {
     if left.dims < 6 && right.dims < 6 {
-        let mut x = [0.0; 32];
-        let mut y = [0.0; 32];
-        let mut z = [0.0; 64];
-        return regressive_in(
-            own, theirs, joined, left, right, a, b, &mut x, &mut y, &mut z, out,
-        );
+        return regressive_in::<32, 64>(own, theirs, joined, left, right, a, b, out);
     }
-    let mut x = [0.0; 512];
-    let mut y = [0.0; 512];
-    let mut z = [0.0; 512];
-    regressive_in(
-        own, theirs, joined, left, right, a, b, &mut x, &mut y, &mut z, out,
-    )
+    regressive_in::<512, 512>(own, theirs, joined, left, right, a, b, out)
 }
 
 // The same, with the order of the dimensions that the values meet in: the left one's or the right one's where it is that, else one that is built here.
@@ -180,7 +151,7 @@ fn regressive_joined(
     a: &[f64],
     b: &[f64],
     out: &mut [f64],
-) -> Answer
+) -> Result<Shape, Refusal>
     requires in_order { InOrder own.now left.dims × InOrder theirs.now right.dims }
     requires dims_bound { (left.dims ≤ 9) × (right.dims ≤ 9) × (meeting_dims left right ≤ 9) }
     requires a_len { (length a.now ≡ 2 ^ left.dims) × (length b.now ≡ 2 ^ right.dims) × (2 ^ meeting_dims left right ≤ length out.old) }
@@ -194,23 +165,29 @@ fn regressive_joined(
         return regressive_by(own, theirs, theirs, left, right, a, b, out);
     }
     let mut order = [0; 512];
-    put_order(n, &mut order);
+    put_order(n, &mut order).unwrap();
     regressive_by(own, theirs, &order, left, right, a, b, out)
 }
 
 // The same, with the orders of both values' dimensions, one where they are the same. Each is built here, once.
-fn put_regressive(left: Shape, right: Shape, a: &[f64], b: &[f64], out: &mut [f64]) -> Answer
+fn put_regressive(
+    left: Shape,
+    right: Shape,
+    a: &[f64],
+    b: &[f64],
+    out: &mut [f64],
+) -> Result<Shape, Refusal>
     requires dims_bound { (left.dims ≤ 9) × (right.dims ≤ 9) × (meeting_dims left right ≤ 9) }
     requires a_len { (length a.now ≡ 2 ^ left.dims) × (length b.now ≡ 2 ^ right.dims) × (2 ^ meeting_dims left right ≤ length out.old) }
     ensures { Gives (regressive_product left right a.now b.now (length out.old)) result out.old out.new }
 {
     let mut own = [0; 512];
-    put_order(left.dims, &mut own);
+    put_order(left.dims, &mut own).unwrap();
     if left.dims == right.dims {
         return regressive_joined(&own, &own, left, right, a, b, out);
     }
     let mut theirs = [0; 512];
-    put_order(right.dims, &mut theirs);
+    put_order(right.dims, &mut theirs).unwrap();
     regressive_joined(&own, &theirs, left, right, a, b, out)
 }
 
@@ -221,12 +198,9 @@ pub fn regressive_product(
     a: &[f64],
     b: &[f64],
     out: &mut [f64],
-) -> Answer
+) -> Result<Shape, Refusal>
     ensures { Gives (regressive_product left right a.now b.now (length out.old)) result out.old out.new }
 {
-    let no = joined_refusal(left, right, true, a, b, out.len());
-    if no != DONE {
-        return refused(no);
-    }
+    joined_refusal(left, right, true, a, b, out.len())?;
     put_regressive(left, right, a, b, out)
 }

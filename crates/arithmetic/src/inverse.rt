@@ -10,20 +10,17 @@ ghost use Rattle.arithmetic.specs.Inverse.{square_of, less_scalar, by_square, na
 use super::kept::kept_refusal;
 use super::scalar::{ScalarTest, test_of};
 use super::scale::{negate, scale};
-use masks::outcome::{Answer, DONE, PLANAR, done, refused};
+use masks::outcome::Refusal;
 use masks::shape::Shape;
 use product::mode::Mode;
 use product::products::multiply;
 
 // Whether the scalar test answered planar.
+#[tactic(auto, unfolding(crate::specs::Scalar::was_planar))]
 pub(crate) fn was_planar(test: ScalarTest) -> bool
     ensures { result ≡ was_planar test }
 {
-    match test {
-        ScalarTest::Scalar(_) => false,
-        ScalarTest::Planar(_) => true,
-        ScalarTest::Neither => false,
-    }
+    matches!(test, ScalarTest::Planar(_))
 }
 
 // The value squared by the pairwise product, at the front of the output.
@@ -32,25 +29,21 @@ pub(crate) fn put_square(given: &[u16], shape: Shape, x: &[f64], out: &mut [f64]
     requires dims_bound { (shape.dims ≤ 9) × (length x.now ≡ 2 ^ shape.dims) × (2 ^ shape.dims ≤ length out.old) }
     ensures { out.new ≡ laid (square_of shape x.now) out.old }
 {
-    multiply(given, Mode::All, shape, shape, x, x, out);
+    let _ = multiply(given, Mode::All, shape, shape, x, x, out);
 }
 
-// The scalar test of x squared, x being the value with -s added at place 0, s. The arrays for x and its square are lent.
-fn test_square_in(
-    given: &[u16],
-    shape: Shape,
-    a: &[f64],
-    x: &mut [f64],
-    square: &mut [f64],
-) -> ScalarTest
+// The scalar test of x squared, x being the value with -s added at place 0, s. The arrays for x and its square hold N numbers.
+fn test_square_in<const N: usize>(given: &[u16], shape: Shape, a: &[f64]) -> ScalarTest
     requires in_order { InOrder given.now shape.dims }
-    requires dims_bound { (shape.dims ≤ 9) × (length a.now ≡ 2 ^ shape.dims) × (length a.now ≤ length x.old) × (length a.now ≤ length square.old) }
+    requires dims_bound { (shape.dims ≤ 9) × (length a.now ≡ 2 ^ shape.dims) × (length a.now ≤ N) × (N ≤ 512) }
     ensures { result ≡ test_of shape (square_of shape (less_scalar a.now)) }
 {
-    shape.set_dims(shape.dims, a, x);
+    let mut x = [0.0; N];
+    let mut square = [0.0; N];
+    x[..a.len()].copy_from_slice(a);
     x[0] = a[0] + -a[0];
-    put_square(given, shape, &x[0..a.len()], square);
-    test_of(shape, &square[0..a.len()])
+    put_square(given, shape, &x[..a.len()], &mut square);
+    test_of(shape, &square[..a.len()])
 }
 
 // The same, in arrays as long as the dimensions want.
@@ -60,13 +53,9 @@ fn test_square(given: &[u16], shape: Shape, a: &[f64]) -> ScalarTest
     ensures { result ≡ test_of shape (square_of shape (less_scalar a.now)) }
 {
     if a.len() <= 64 {
-        let mut x = [0.0; 64];
-        let mut square = [0.0; 64];
-        return test_square_in(given, shape, a, &mut x, &mut square);
+        return test_square_in::<64>(given, shape, a);
     }
-    let mut x = [0.0; 512];
-    let mut square = [0.0; 512];
-    test_square_in(given, shape, a, &mut x, &mut square)
+    test_square_in::<512>(given, shape, a)
 }
 
 // The value at the front, whose place 0 is s, becomes (-x + s) / (s x s - q).
@@ -86,11 +75,7 @@ fn put_nan(dims: u8, n: usize, out: &mut [f64])
     requires { (n ≡ 2 ^ dims) × (n ≤ length out.old) }
     ensures { out.new ≡ laid (nanified dims) out.old }
 {
-    let mut k: usize = 1;
-    while k < n {
-        out[k] = 0.0;
-        k += 1;
-    }
+    out[1..n].fill(0.0);
     out[0] = 0.0 / 0.0;
 }
 
@@ -100,14 +85,12 @@ fn put_general(given: &[u16], shape: Shape, a: &[f64], out: &mut [f64])
     requires dims_bound { (shape.dims ≤ 9) × (length a.now ≡ 2 ^ shape.dims) × (2 ^ shape.dims ≤ length out.old) }
     ensures { out.new ≡ laid (general_inverse shape a.now) out.old }
 {
-    let test = test_square(given, shape, a);
-    match test {
+    match test_square(given, shape, a) {
         ScalarTest::Scalar(q) => {
-            shape.set_dims(shape.dims, a, out);
+            out[..a.len()].copy_from_slice(a);
             put_by_square(a.len(), q, out);
         }
-        ScalarTest::Planar(_) => put_nan(shape.dims, a.len(), out),
-        ScalarTest::Neither => put_nan(shape.dims, a.len(), out),
+        _ => put_nan(shape.dims, a.len(), out),
     }
 }
 
@@ -116,7 +99,7 @@ fn put_reciprocal(shape: Shape, f: f64, a: &[f64], out: &mut [f64])
     requires { (shape.dims ≤ 9) × (length a.now ≡ 2 ^ shape.dims) × (2 ^ shape.dims ≤ length out.old) }
     ensures { out.new ≡ laid (set a.now 0 (reciprocal f)) out.old }
 {
-    shape.set_dims(shape.dims, a, out);
+    out[..a.len()].copy_from_slice(a);
     out[0] = 1.0 / f;
 }
 
@@ -126,8 +109,7 @@ pub(crate) fn put_inverse(given: &[u16], shape: Shape, a: &[f64], out: &mut [f64
     requires dims_bound { (shape.dims ≤ 9) × (length a.now ≡ 2 ^ shape.dims) × (2 ^ shape.dims ≤ length out.old) }
     ensures { out.new ≡ laid (inverse_of shape a.now) out.old }
 {
-    let test = test_of(shape, a);
-    match test {
+    match test_of(shape, a) {
         ScalarTest::Scalar(f) => put_reciprocal(shape, f, a, out),
         ScalarTest::Planar(_) => {}
         ScalarTest::Neither => put_general(given, shape, a, out),
@@ -135,17 +117,13 @@ pub(crate) fn put_inverse(given: &[u16], shape: Shape, a: &[f64], out: &mut [f64
 }
 
 // The inverse of a value.
-pub fn inverted(shape: Shape, a: &[f64], out: &mut [f64]) -> Answer
+pub fn inverted(shape: Shape, a: &[f64], out: &mut [f64]) -> Result<Shape, Refusal>
     ensures { Gives (inverse shape a.now (length out.old)) result out.old out.new }
 {
-    let no = kept_refusal(shape, a, out.len());
-    if no != DONE {
-        return refused(no);
-    }
+    kept_refusal(shape, a, out.len())?;
     if was_planar(test_of(shape, a)) {
-        return refused(PLANAR);
+        return Err(Refusal::Planar);
     }
-    let none: [u16; 0] = [];
-    put_inverse(&none, shape, a, out);
-    done(shape)
+    put_inverse(&[], shape, a, out);
+    Ok(shape)
 }

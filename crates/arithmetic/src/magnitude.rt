@@ -7,15 +7,17 @@ ghost use Rattle.std.specs.Float.Ieee.{of_int};
 ghost use Rattle.clifford.specs.Blade.{has};
 ghost use Rattle.clifford.specs.Sign.{sign};
 ghost use Rattle.masks.specs.Flavor.{metric_of};
+ghost use Rattle.masks.specs.Outcome.{IsAnswer};
 ghost use Rattle.product.specs.Pairwise.{mask_at};
 ghost use Rattle.arithmetic.specs.Magnitude.{weighed_sum, squared_magnitude};
 
 use masks::flavor::Flavor;
 use masks::order::put_order;
-use masks::outcome::{DONE, Real, value_refusal};
+use masks::outcome::{Refusal, value_refusal};
 use masks::shape::Shape;
 
-// The basis vectors that square to 0, and those that square to 0 or to -1, as masks.
+// The basis vectors that square to 0, and those that square to 0 or to -1, as masks. Those of product, which keep the two apart, are said by a
+// definition that no public contract cites (specs/inner).
 #[derive(Clone, Copy)]
 struct Squares {
     null: u16,
@@ -26,7 +28,7 @@ struct Squares {
 fn low_bits(k: u16) -> u16
     ensures { result ≡ 2 ^ min k 9 - 1 }
 {
-    if k < 9 { (1 << k) - 1 } else { 511 }
+    (1 << k.min(9)) - 1
 }
 
 // The squares of the nine basis vectors.
@@ -64,54 +66,30 @@ fn sum_squares(flavor: Flavor, dims: u8, masks: &[u16], a: &[f64]) -> f64
 {
     let s = squares_of(flavor);
     let mut sum = 0.0;
-    let mut i: usize = 0;
-    while i < a.len() {
-        let c = a[i];
-        sum = sum + weight_of(s, masks[i]) * c * c;
-        i += 1;
+    for (i, c) in a.iter().enumerate() {
+        sum = sum + weight_of(s, masks[i]) * *c * *c;
     }
     sum
 }
 
-// The same, where the order is made in an array of 64 masks.
-fn sum_small(flavor: Flavor, dims: u8, a: &[f64]) -> f64
-    requires { (dims ≤ 6) × (length a.now ≡ 2 ^ dims) }
+// The same, where the order is made in an array of N masks.
+fn sum_in<const N: usize>(flavor: Flavor, dims: u8, a: &[f64]) -> f64
+    requires { (dims ≤ 9) × (2 ^ dims ≤ N) × (N ≤ 512) × (length a.now ≡ 2 ^ dims) }
     ensures { result ≡ weighed_sum flavor dims a.now (2 ^ dims) }
 {
-    let mut masks = [0; 64];
-    put_order(dims, &mut masks);
-    sum_squares(flavor, dims, &masks, a)
-}
-
-// The same, where the order is made in an array of 512 masks.
-fn sum_large(flavor: Flavor, dims: u8, a: &[f64]) -> f64
-    requires { (dims ≤ 9) × (length a.now ≡ 2 ^ dims) }
-    ensures { result ≡ weighed_sum flavor dims a.now (2 ^ dims) }
-{
-    let mut masks = [0; 512];
-    put_order(dims, &mut masks);
+    let mut masks = [0; N];
+    let _ordered = put_order(dims, &mut masks);
     sum_squares(flavor, dims, &masks, a)
 }
 
 // The squared magnitude of a value.
-pub fn squared_magnitude(shape: Shape, a: &[f64]) -> Real
-    ensures { result ≡ squared_magnitude shape a.now }
+pub fn squared_magnitude(shape: Shape, a: &[f64]) -> Result<f64, Refusal>
+    ensures { IsAnswer (squared_magnitude shape a.now).number (squared_magnitude shape a.now).value result }
 {
-    let no = value_refusal(shape.dims, a.len());
-    if no != DONE {
-        return Real {
-            number: no,
-            value: 0.0,
-        };
-    }
+    value_refusal(shape.dims, a.len())?;
     let flavor = shape.flavor;
-    let value = if shape.dims <= 6 {
-        sum_small(flavor, shape.dims, a)
-    } else {
-        sum_large(flavor, shape.dims, a)
-    };
-    Real {
-        number: DONE,
-        value,
+    if shape.dims <= 6 {
+        return Ok(sum_in::<64>(flavor, shape.dims, a));
     }
+    Ok(sum_in::<512>(flavor, shape.dims, a))
 }

@@ -1,7 +1,7 @@
 // Whole powers.
 ghost use Rattle.std.specs.Prelude.{◌≡◌, false, ◌&&◌, ◌+◌, ◌^◌, ◌≤◌, ◌<◌, length, take};
 ghost use Rattle.masks.specs.Flavor.{added_dims};
-ghost use Rattle.masks.specs.Outcome.{Gives, laid, refusal};
+ghost use Rattle.masks.specs.Outcome.{IsAnswer, Gives, laid, refusal};
 ghost use Rattle.masks.specs.Shape.{with_dims};
 ghost use Rattle.arithmetic.specs.inner.Given.{InOrder};
 ghost use Rattle.arithmetic.specs.Scalar.{test_of, was_planar};
@@ -13,59 +13,41 @@ use super::inverse::{put_inverse, put_square, was_planar};
 use super::operators::mul_by;
 use super::scalar::test_of;
 use masks::build::scalar;
-use masks::order::{blade_count, put_order};
-use masks::outcome::{Answer, DONE, LEAST_POWER, MAX_DIMS, PLANAR, done, refusal_of, refused};
+use masks::order::{blades_or_none, put_order};
+use masks::outcome::{Refusal, refusal_of};
 use masks::shape::Shape;
-
-// The power's size.
-fn size_of(power: i32) -> u32
-    requires { size_of power < 2 ^ 31 }
-    ensures { result ≡ size_of power }
-{
-    if power < 0 {
-        return (-power) as u32;
-    }
-    power as u32
-}
 
 // Whether the power is 1, 2, -1 or -2.
 fn is_direct(power: i32) -> bool
     ensures { result ≡ is_direct (size_of power) }
 {
-    power == 1 || power == 2 || power == -1 || power == -2
+    let size = power.unsigned_abs();
+    size == 1 || size == 2
 }
 
-// The dimensions of a power; 10, which is refused, where given ones are above 9.
+// The dimensions of a power.
 fn power_dims(shape: Shape, power: i32) -> u8
     ensures { shape.dims ≤ 9 → result ≡ power_dims shape (size_of power) }
 {
-    if MAX_DIMS < shape.dims {
-        return 10;
-    }
     if is_direct(power) {
         return shape.dims;
     }
-    let flavor = shape.flavor;
-    shape.dims + flavor.added_dims()
+    shape.dims.saturating_add(shape.flavor.added_dims())
 }
 
-// The number that a power is refused with, or 0.
-fn power_refusal(shape: Shape, power: i32, a: &[f64], room: usize) -> u8
-    ensures { result ≡ refusal (power_tests shape power a.now room) }
+// Whether a power is refused.
+fn power_refusal(shape: Shape, power: i32, a: &[f64], room: usize) -> Result<(), Refusal>
+    ensures { IsAnswer (refusal (power_tests shape power a.now room)) tt result }
 {
     let n = power_dims(shape, power);
-    let needed = blade_count(n).count;
-    let no = refusal_of(shape.dims, n, a.len(), room, needed);
-    if no != DONE {
-        return no;
-    }
+    refusal_of(shape.dims, n, a.len(), room, blades_or_none(n))?;
     if power < 0 && was_planar(test_of(shape, a)) {
-        return PLANAR;
+        return Err(Refusal::Planar);
     }
-    if power == -2147483648 {
-        return LEAST_POWER;
+    if power == i32::MIN {
+        return Err(Refusal::LeastPower);
     }
-    DONE
+    Ok(())
 }
 
 // The value in the front of the output becomes itself `*` the base. An array for the product is lent.
@@ -82,9 +64,9 @@ fn mul_front(
     requires x_len { (length x.now ≡ 2 ^ shape.dims) × (2 ^ grown.dims ≤ length out.old) × (2 ^ grown.dims ≤ length next.old) }
     ensures { out.new ≡ laid (multiplication grown shape (take (2 ^ grown.dims) out.old) x.now 512).coefs out.old }
 {
-    let n = blade_count(grown.dims).count;
-    mul_by(given, grown, shape, &out[0..n], x, next);
-    grown.set_dims(grown.dims, &next[0..n], out);
+    let n = blades_or_none(grown.dims);
+    let _ = mul_by(given, grown, shape, &out[..n], x, next);
+    out[..n].copy_from_slice(&next[..n]);
 }
 
 // The value in the front of the base becomes its square. An array for the square is lent.
@@ -93,8 +75,8 @@ fn square_front(given: &[u16], shape: Shape, n: usize, next: &mut [f64], base: &
     requires dims_bound { (shape.dims ≤ 9) × (n ≡ 2 ^ shape.dims) × (n ≤ length base.old) × (n ≤ length next.old) }
     ensures { base.new ≡ laid (square_of shape (take n base.old)) base.old }
 {
-    put_square(given, shape, &base[0..n], next);
-    shape.set_dims(shape.dims, &next[0..n], base);
+    put_square(given, shape, &base[..n], next);
+    base[..n].copy_from_slice(&next[..n]);
 }
 
 // The power by the exponent's digits, low bit first: `*` by the base, then the base squared. Arrays for the base and for what comes next are lent, and
@@ -114,14 +96,12 @@ fn raise_in(
     requires x_len { (length x.now ≡ 2 ^ shape.dims) × (2 ^ (shape.dims + added_dims shape.flavor) ≤ length out.old) }
     ensures { out.new ≡ laid (by_digits shape power x.now) out.old }
 {
-    let flavor = shape.flavor;
-    let start = scalar(shape.dims, 1.0, flavor, out);
-    let grown = start.shape;
-    shape.set_dims(shape.dims, x, base);
+    let grown = scalar(shape.dims, 1.0, shape.flavor, out).unwrap();
+    base[..x.len()].copy_from_slice(x);
     let mut p = power;
     while 0 < p {
         if p % 2 == 1 {
-            mul_front(wide, grown, shape, &base[0..x.len()], next, out);
+            mul_front(wide, grown, shape, &base[..x.len()], next, out);
         }
         p = p / 2;
         if 0 < p {
@@ -130,31 +110,31 @@ fn raise_in(
     }
 }
 
-// The same, with the order of the power's dimensions: that of the base's where they are the same, else one that is built here. An array for it is lent.
-fn raise_wide(
+// The same, with the order of the power's dimensions: that of the base's where they are the same, else one that is built here. The array for the base
+// holds BASE numbers, those for that order and for what comes next WIDE.
+fn raise_wide<const BASE: usize, const WIDE: usize>(
     given: &[u16],
     shape: Shape,
     power: u32,
     x: &[f64],
-    order: &mut [u16],
-    base: &mut [f64],
-    next: &mut [f64],
     out: &mut [f64],
 )
     requires in_order { InOrder given.now shape.dims }
-    requires flavor_bound { (shape.dims + added_dims shape.flavor ≤ 9) × (power < 2 ^ 31) × (2 ^ (shape.dims + added_dims shape.flavor) ≤ length order.old) }
-    requires x_in_bounds { (length x.now ≤ length base.old) × (2 ^ (shape.dims + added_dims shape.flavor) ≤ length next.old) }
+    requires flavor_bound { (shape.dims + added_dims shape.flavor ≤ 9) × (power < 2 ^ 31) × (2 ^ (shape.dims + added_dims shape.flavor) ≤ WIDE) }
+    requires x_in_bounds { (length x.now ≤ BASE) × (BASE ≤ 512) × (WIDE ≤ 512) }
     requires x_len { (length x.now ≡ 2 ^ shape.dims) × (2 ^ (shape.dims + added_dims shape.flavor) ≤ length out.old) }
     ensures { out.new ≡ laid (by_digits shape power x.now) out.old }
 {
-    let flavor = shape.flavor;
-    let added = flavor.added_dims();
+    let mut base = [0.0; BASE];
+    let mut next = [0.0; WIDE];
+    let added = shape.flavor.added_dims();
     if added == 0 {
-        raise_in(given, given, shape, power, x, base, next, out);
+        raise_in(given, given, shape, power, x, &mut base, &mut next, out);
         return;
     }
-    put_order(shape.dims + added, order);
-    raise_in(given, order, shape, power, x, base, next, out);
+    let mut order = [0; WIDE];
+    put_order(shape.dims + added, &mut order).unwrap();
+    raise_in(given, &order, shape, power, x, &mut base, &mut next, out);
 }
 
 // The same, in arrays as long as the dimensions want.
@@ -165,23 +145,14 @@ fn raise_by_digits(given: &[u16], shape: Shape, power: u32, x: &[f64], out: &mut
     ensures { out.new ≡ laid (by_digits shape power x.now) out.old }
 {
     if x.len() <= 32 {
-        let mut order = [0; 64];
-        let mut base = [0.0; 32];
-        let mut next = [0.0; 64];
-        raise_wide(
-            given, shape, power, x, &mut order, &mut base, &mut next, out,
-        );
-        return;
+        raise_wide::<32, 64>(given, shape, power, x, out);
+    } else {
+        raise_wide::<512, 512>(given, shape, power, x, out);
     }
-    let mut order = [0; 512];
-    let mut base = [0.0; 512];
-    let mut next = [0.0; 512];
-    raise_wide(
-        given, shape, power, x, &mut order, &mut base, &mut next, out,
-    );
 }
 
 // x to the power.
+#[tactic(auto, using(crate::proofs::PowerLaws::first_fits, crate::proofs::PowerLaws::first_taken))]
 fn raise(given: &[u16], shape: Shape, power: u32, x: &[f64], out: &mut [f64])
     requires in_order { InOrder given.now shape.dims }
     requires power_bound { (power_dims shape power ≤ 9) × (shape.dims ≤ 9) × (power < 2 ^ 31) }
@@ -189,7 +160,7 @@ fn raise(given: &[u16], shape: Shape, power: u32, x: &[f64], out: &mut [f64])
     ensures { out.new ≡ laid (raised_to shape power x.now) out.old }
 {
     if power == 1 {
-        shape.set_dims(shape.dims, x, out);
+        out[..x.len()].copy_from_slice(x);
         return;
     }
     if power == 2 {
@@ -199,22 +170,22 @@ fn raise(given: &[u16], shape: Shape, power: u32, x: &[f64], out: &mut [f64])
     raise_by_digits(given, shape, power, x, out);
 }
 
-// x's inverse to the power. An array for the inverse is lent.
-fn raise_inverse(
+// x's inverse to the power. The array for the inverse holds N numbers.
+fn raise_inverse<const N: usize>(
     given: &[u16],
     shape: Shape,
     power: u32,
     a: &[f64],
-    base: &mut [f64],
     out: &mut [f64],
 )
     requires in_order { InOrder given.now shape.dims }
     requires power_bound { (power_dims shape power ≤ 9) × (shape.dims ≤ 9) × (power < 2 ^ 31) × (was_planar (test_of shape a.now) ≡ false) }
-    requires a_len { (length a.now ≡ 2 ^ shape.dims) × (length a.now ≤ length base.old) × (2 ^ power_dims shape power ≤ length out.old) }
+    requires a_len { (length a.now ≡ 2 ^ shape.dims) × (length a.now ≤ N) × (2 ^ power_dims shape power ≤ length out.old) × (N ≤ 512) }
     ensures { out.new ≡ laid (raised_to shape power (inverse_of shape a.now)) out.old }
 {
-    put_inverse(given, shape, a, base);
-    raise(given, shape, power, &base[0..a.len()], out);
+    let mut base = [0.0; N];
+    put_inverse(given, shape, a, &mut base);
+    raise(given, shape, power, &base[..a.len()], out);
 }
 
 // A power of a value that is not refused, with the order of its dimensions.
@@ -224,50 +195,47 @@ fn put_power_by(given: &[u16], shape: Shape, power: i32, a: &[f64], out: &mut [f
     requires a_len { (length a.now ≡ 2 ^ shape.dims) × (2 ^ power_dims shape (size_of power) ≤ length out.old) }
     ensures { out.new ≡ laid (power_of shape power a.now) out.old }
 {
-    let n = size_of(power);
+    let n = power.unsigned_abs();
     if 0 <= power {
         raise(given, shape, n, a, out);
-        return;
+    } else if a.len() <= 64 {
+        raise_inverse::<64>(given, shape, n, a, out);
+    } else {
+        raise_inverse::<512>(given, shape, n, a, out);
     }
-    if a.len() <= 64 {
-        let mut base = [0.0; 64];
-        raise_inverse(given, shape, n, a, &mut base, out);
-        return;
-    }
-    let mut base = [0.0; 512];
-    raise_inverse(given, shape, n, a, &mut base, out);
 }
 
-// A power of a value that is not refused: the order of its dimensions is built here, once, where more than one product reads it.
+// The same, with the order of its dimensions, which is built here, once, where more than one product reads it, in an array of N masks.
+fn put_power_in<const N: usize>(shape: Shape, power: i32, a: &[f64], out: &mut [f64])
+    requires power_bound { (power_dims shape (size_of power) ≤ 9) × (shape.dims ≤ 9) × (size_of power < 2 ^ 31) × ((is_negative power && was_planar (test_of shape a.now)) ≡ false) }
+    requires a_len { (length a.now ≡ 2 ^ shape.dims) × (2 ^ power_dims shape (size_of power) ≤ length out.old) × (length a.now ≤ N) × (N ≤ 512) }
+    ensures { out.new ≡ laid (power_of shape power a.now) out.old }
+{
+    let mut order = [0; N];
+    put_order(shape.dims, &mut order).unwrap();
+    put_power_by(&order, shape, power, a, out);
+}
+
+// A power of a value that is not refused, in arrays as long as the dimensions want.
 fn put_power(shape: Shape, power: i32, a: &[f64], out: &mut [f64])
     requires power_bound { (power_dims shape (size_of power) ≤ 9) × (shape.dims ≤ 9) × (size_of power < 2 ^ 31) × ((is_negative power && was_planar (test_of shape a.now)) ≡ false) }
     requires a_len { (length a.now ≡ 2 ^ shape.dims) × (2 ^ power_dims shape (size_of power) ≤ length out.old) }
     ensures { out.new ≡ laid (power_of shape power a.now) out.old }
 {
     if -2 < power && power < 3 {
-        let none: [u16; 0] = [];
-        put_power_by(&none, shape, power, a, out);
-        return;
+        put_power_by(&[], shape, power, a, out);
+    } else if a.len() <= 64 {
+        put_power_in::<64>(shape, power, a, out);
+    } else {
+        put_power_in::<512>(shape, power, a, out);
     }
-    if a.len() <= 64 {
-        let mut order = [0; 64];
-        put_order(shape.dims, &mut order);
-        put_power_by(&order[0..a.len()], shape, power, a, out);
-        return;
-    }
-    let mut order = [0; 512];
-    put_order(shape.dims, &mut order);
-    put_power_by(&order[0..a.len()], shape, power, a, out);
 }
 
 // A whole power of a value.
-pub fn powi(shape: Shape, exponent: i32, a: &[f64], out: &mut [f64]) -> Answer
+pub fn powi(shape: Shape, exponent: i32, a: &[f64], out: &mut [f64]) -> Result<Shape, Refusal>
     ensures { Gives (power shape exponent a.now (length out.old)) result out.old out.new }
 {
-    let no = power_refusal(shape, exponent, a, out.len());
-    if no != DONE {
-        return refused(no);
-    }
+    power_refusal(shape, exponent, a, out.len())?;
     put_power(shape, exponent, a, out);
-    done(shape.with_dims(power_dims(shape, exponent)))
+    Ok(shape.with_dims(power_dims(shape, exponent)))
 }

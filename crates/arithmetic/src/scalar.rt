@@ -1,44 +1,34 @@
 // The scalar test.
 ghost use Rattle.std.specs.Prelude.{◌≡◌, false, ◌&&◌, ◌+◌, ◌^◌, ◌≤◌, length, drop};
+ghost use Rattle.masks.specs.Outcome.{IsAnswer};
 ghost use Rattle.arithmetic.specs.Scalar.{all_zero, is_scalar, is_vanilla, is_planar, test_of, scalar_test};
 
+use super::compare::four_equal;
 use masks::flavor::Flavor;
-use masks::outcome::{DONE, value_refusal};
+use masks::outcome::{Refusal, value_refusal};
 use masks::shape::Shape;
 
 // A complex number.
-#[derive(Clone, Copy)]
+#[derive(Clone, Copy, PartialEq, Debug)]
 pub struct Complex {
     pub re: f64,
     pub im: f64,
 }
 
-#[derive(Clone, Copy)]
+// What the test answers.
+#[derive(Clone, Copy, PartialEq, Debug)]
 pub enum ScalarTest {
     Scalar(f64),
     Planar(Complex),
     Neither,
 }
 
-// What the test answers.
-#[derive(Clone, Copy)]
-pub struct Tested {
-    pub number: u8,
-    pub test: ScalarTest,
-}
-
 // Whether every number from the place `first` on equals zero.
 fn zero_from(a: &[f64], first: usize) -> bool
+    requires { first ≤ length a.now }
     ensures { result ≡ all_zero (drop first a.now) }
 {
-    let mut i = first;
-    while i < a.len() {
-        if a[i] != 0.0 {
-            return false;
-        }
-        i += 1;
-    }
-    true
+    a[first..].iter().all(|x| *x == 0.0)
 }
 
 // Whether the four numbers from place i on equal zero.
@@ -46,7 +36,7 @@ fn four_zero(a: &[f64], i: usize) -> bool
     requires { i + 4 ≤ length a.now }
     ensures { all_zero (drop i a.now) ≡ (result && all_zero (drop (i + 4) a.now)) }
 {
-    (a[i] == 0.0) & (a[i + 1] == 0.0) & (a[i + 2] == 0.0) & (a[i + 3] == 0.0)
+    four_equal(&a[i..], &[0.0; 4])
 }
 
 // Whether every number from place 4 on equals zero, four at a time.
@@ -54,14 +44,13 @@ fn zero_by_fours(a: &[f64]) -> bool
     requires { 4 ≤ length a.now }
     ensures { result ≡ all_zero (drop 4 a.now) }
 {
-    let mut i: usize = 4;
-    while i + 4 <= a.len() {
-        if !four_zero(a, i) {
+    let fours = a.len() / 4;
+    for k in 1..fours {
+        if !four_zero(a, 4 * k) {
             return false;
         }
-        i += 4;
     }
-    zero_from(a, i)
+    zero_from(a, 4 * fours)
 }
 
 // Whether every number after place 0 equals zero.
@@ -89,11 +78,7 @@ pub(crate) fn is_scalar(a: &[f64]) -> bool
 fn is_vanilla(flavor: Flavor) -> bool
     ensures { result ≡ is_vanilla flavor }
 {
-    match flavor {
-        Flavor::Vanilla => true,
-        Flavor::Projective => false,
-        Flavor::Cl(_, _, _) => false,
-    }
+    matches!(flavor, Flavor::Vanilla)
 }
 
 fn is_planar(shape: Shape, a: &[f64]) -> bool
@@ -131,18 +116,12 @@ pub(crate) fn test_of(shape: Shape, a: &[f64]) -> ScalarTest
 }
 
 // The scalar test of a value; as `test_of` does it, which is not called, so that its answer is not copied.
-pub fn scalar_test(shape: Shape, a: &[f64]) -> Tested
-    ensures { result ≡ scalar_test shape a.now }
+pub fn scalar_test(shape: Shape, a: &[f64]) -> Result<ScalarTest, Refusal>
+    ensures { IsAnswer (scalar_test shape a.now).number (scalar_test shape a.now).test result }
 {
-    let no = value_refusal(shape.dims, a.len());
-    if no != DONE {
-        let test = ScalarTest::Neither;
-        return Tested { number: no, test };
-    }
+    value_refusal(shape.dims, a.len())?;
     if is_scalar(a) {
-        let test = ScalarTest::Scalar(a[0]);
-        return Tested { number: DONE, test };
+        return Ok(ScalarTest::Scalar(a[0]));
     }
-    let test = test_other(shape, a);
-    Tested { number: DONE, test }
+    Ok(test_other(shape, a))
 }

@@ -4,7 +4,7 @@ ghost use Rattle.std.specs.Float.Ieee.{neg};
 ghost use Rattle.masks.specs.Outcome.{Gives, laid};
 ghost use Rattle.arithmetic.specs.Scale.{scaled, mul_f64, div_f64, negation};
 
-use masks::outcome::{Answer, DONE};
+use masks::outcome::Refusal;
 use masks::shape::Shape;
 
 // The first n numbers are multiplied, unless by 1.0.
@@ -15,10 +15,8 @@ pub(crate) fn scale(n: usize, f: f64, out: &mut [f64])
     if f == 1.0 {
         return;
     }
-    let mut k: usize = 0;
-    while k < n {
-        out[k] = out[k] * f;
-        k += 1;
+    for x in out[..n].iter_mut() {
+        *x = *x * f;
     }
 }
 
@@ -27,38 +25,32 @@ pub(crate) fn negate(n: usize, out: &mut [f64])
     requires { n ≤ length out.old }
     ensures { out.new ≡ laid (map neg (take n out.old)) out.old }
 {
-    let mut k: usize = 0;
-    while k < n {
-        out[k] = -out[k];
-        k += 1;
+    for x in out[..n].iter_mut() {
+        *x = -*x;
     }
 }
 
 // The value times a number: by 1.0 nothing is multiplied.
-pub fn mul_f64(shape: Shape, f: f64, a: &[f64], out: &mut [f64]) -> Answer
+pub fn mul_f64(shape: Shape, f: f64, a: &[f64], out: &mut [f64]) -> Result<Shape, Refusal>
     ensures { Gives (mul_f64 shape f a.now (length out.old)) result out.old out.new }
 {
-    let r = shape.set_dims(shape.dims, a, out);
-    if r.number == DONE {
-        scale(a.len(), f, out);
-    }
-    r
+    let kept = shape.set_dims(shape.dims, a, out)?;
+    scale(a.len(), f, out);
+    Ok(kept)
 }
 
 // The value over a number: it is multiplied by 1 / f.
-pub fn div_f64(shape: Shape, f: f64, a: &[f64], out: &mut [f64]) -> Answer
+pub fn div_f64(shape: Shape, f: f64, a: &[f64], out: &mut [f64]) -> Result<Shape, Refusal>
     ensures { Gives (div_f64 shape f a.now (length out.old)) result out.old out.new }
 {
     mul_f64(shape, 1.0 / f, a, out)
 }
 
 // Every number negated, zeros too.
-pub fn neg(shape: Shape, a: &[f64], out: &mut [f64]) -> Answer
+pub fn neg(shape: Shape, a: &[f64], out: &mut [f64]) -> Result<Shape, Refusal>
     ensures { Gives (negation shape a.now (length out.old)) result out.old out.new }
 {
-    let r = shape.set_dims(shape.dims, a, out);
-    if r.number == DONE {
-        negate(a.len(), out);
-    }
-    r
+    let kept = shape.set_dims(shape.dims, a, out)?;
+    negate(a.len(), out);
+    Ok(kept)
 }

@@ -1,6 +1,10 @@
 -- Laws of single blades and of one grade. Assumes nothing.
 use mathlib.Core.Path.{◌≡◌, refl, sym, ap, ap₂, ◌∙◌}
-use mathlib.Core.Bool.{Bool, true, false, not, cond}
+use mathlib.Core.Bool.{Bool, true, false, true≢false, not, cond}
+use Rattle.std.specs.Prelude.{Some, Result, Ok, Err, is_err}
+use Rattle.std.specs.List.{find, range_with_len}
+use Rattle.std.specs.Option.{unwrap_or}
+use Rattle.masks.specs.declared.outcome.Refusal.{Refusal}
 use mathlib.Core.Logic.{⊎_elim}
 use mathlib.Core.List.{List, [], ◌∷◌, ◌++◌}
 use Prim.Native.Nat.{ℕ, zero, suc, ◌+◌, ◌-◌, ◌^◌, ◌≤◌, ◌<◌}
@@ -11,13 +15,13 @@ use lib.Dec.{ltb}
 use lib.Ieee.{Float}
 use lib.ListN.{length, set, take, drop, length-set}
 use lib.Seq.{set-append_left}
-use Rattle.masks.specs.Outcome.{refusal, too_many, wrong_count, no_room, value_tests, refused_value, value, laid, refused_real}
+use Rattle.masks.specs.Outcome.{refusal, IsAnswer, too_many, wrong_count, no_room, value_tests, refused_value, value, laid, refused_real}
 use Rattle.masks.specs.declared.shape.Shape.{Shape}
 use Rattle.masks.specs.Order.{place}
 use Rattle.masks.specs.Shape.{coef, with_dims, resized}
 use Rattle.masks.specs.Blade.{get_blade, blade_dims, with_blade, set_blade_tests, set_blade, grade_refusal}
 use Rattle.masks.proofs.ListLaws.{split}
-use Rattle.masks.proofs.OutcomeLaws.{past, unless_done, not_refused, Valued, valued, value_passes}
+use Rattle.masks.proofs.OutcomeLaws.{past, refuses, unless_done, not_refused, Valued, valued, value_passes}
 use Rattle.masks.proofs.ShapeLaws.{coef_set, resized_length}
 
 -- ---- the dimensions that a mask needs
@@ -46,6 +50,18 @@ dims_le (suc k) n m = go (ltb m (2 ^ n)) (dims_le k (n + 1) m)
     go : (b : Bool) → blade_dims k (n + 1) m ≤ n + 1 + k → cond b n (blade_dims k (n + 1) m) ≤ n + suc k
     go true h = omega arith
     go false h = omega arith
+
+-- the first of the k dimensions from n on that a mask fits in, or the ones after them
+pub dims_found : (k n m : ℕ) → unwrap_or (find (λ d. ltb m (2 ^ d)) (range_with_len n k)) (n + k) ≡ blade_dims k n m
+unfolding blade_dims
+dims_found zero n m = omega arith
+dims_found (suc k) n m = go (ltb m (2 ^ n)) (dims_found k (n + 1) m)
+  where
+    go : (b : Bool) → unwrap_or (find (λ d. ltb m (2 ^ d)) (range_with_len (n + 1) k)) (n + 1 + k) ≡ blade_dims k (n + 1) m → unwrap_or (cond b (Some n) (find (λ d. ltb m (2 ^ d)) (range_with_len (n + 1) k))) (n + suc k) ≡ cond b n (blade_dims k (n + 1) m)
+    go true e = refl
+    go false e =
+        let q : n + suc k ≡ n + 1 + k = omega arith in
+        ap (λ i. unwrap_or (find (λ d. ltb m (2 ^ d)) (range_with_len (n + 1) k)) i) q ∙ e
 
 -- ---- a blade set
 
@@ -180,3 +196,13 @@ graded s g a e =
 -- a part from p of q numbers
 pub part_eq {ℓ} : {A : Type ℓ} (p q b z : ℕ) (xs : List A) → p ≡ b → q ≡ z → take (p + q - p) (drop p xs) ≡ take z (drop b xs)
 part_eq p q b z xs e f = let g : p + q - p ≡ z = omega arith in rw (g, e)
+
+-- ---- an answer that is an Err, and one that is not
+
+pub refused : (k : ℕ) (r : Result (Unit {0}) Refusal) → IsAnswer k tt r → is_err r ≡ true → k ≡ 0 → ⊥
+refused k (Ok x) p e = absurd (true≢false (sym e))
+refused k (Err x) p e = λ q. refuses x (sym p ∙ q)
+
+pub unrefused : (k : ℕ) (r : Result (Unit {0}) Refusal) → IsAnswer k tt r → is_err r ≡ false → k ≡ 0
+unrefused k (Ok x) p e = p.0
+unrefused k (Err x) p e = absurd (true≢false e)

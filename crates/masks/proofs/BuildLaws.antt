@@ -16,14 +16,18 @@ use borrow.Author.Tests.{eq-eqb, ne_eqb, eqb-true, eqb-false, lt-ltb, le-ltb, lt
 use Rattle.masks.specs.declared.flavor.Flavor.{Flavor}
 use Rattle.masks.specs.declared.flavor.Flavor.TheVariants.{Vanilla}
 use Rattle.masks.specs.declared.build.Packing.{Packing}
-use Rattle.masks.specs.declared.build.Packing.TheVariants.{Full, Half, Grade, Nothing}
+use Rattle.masks.specs.declared.build.Packing.TheVariants.{Full, Half, Grade}
+use Rattle.masks.specs.declared.build.Parity.{Parity}
+use Rattle.masks.specs.declared.build.Parity.TheVariants.{Even, Odd}
 use Rattle.masks.specs.Order.{grade, grades_below, order, size, start, built_tests, GivesOrder}
 use Rattle.masks.specs.Outcome.{refusal, too_many, no_room, laid, value, refused_value, shape_of, nought}
-use Rattle.masks.specs.Build.{padded, at_grade, one_grade, n_1_tests, n_1_blades, first_grade, side_start, side_end, packing, unpacked, of_parity, spread, packed, packed_tests, blades_of_side}
+use Rattle.masks.specs.Build.{odd_of, padded, at_grade, one_grade, n_1_tests, n_1_blades, first_grade, side_start, side_end, packing, unpacked, of_parity, spread, packed, packed_tests, blades_of_side}
 use Rattle.masks.specs.Unpack.{choose}
 use Rattle.masks.proofs.ListLaws.{get_d_past, sets_laid, laid_over}
 use Rattle.masks.proofs.OrderLaws.{length_grade, length_order, grade_at, size_zero, start_all, size_above, part_fits}
-use Rattle.std.specs.Prelude.{Result, Ok}
+use Rattle.std.specs.List.{find, range_with_len}
+use Rattle.std.specs.Option.{option_map}
+use Rattle.std.specs.Prelude.{Result, Ok, Option, None, Some}
 use Rattle.masks.specs.declared.outcome.Refusal.{Refusal}
 use Rattle.masks.proofs.OutcomeLaws.{past, refused_first, refused_later, answer_one, unless_done, unless_ok}
 
@@ -185,6 +189,11 @@ module _ (odd d : ℕ) (o : odd ≤ 1) where
         | no e ↦ (counted_step (suc d)).1 e ∙ start_all d
       ]
 
+-- the number of a parity is 0 or 1
+pub odd-le : (p : Parity) → odd_of p ≤ 1
+odd-le Even = omega arith
+odd-le Odd = omega arith
+
 -- half of the masks have one parity
 pub half_count : (odd d : ℕ) → odd ≤ 1 → 0 < d → length (choose odd (order d)) ≡ 2 ^ (d - 1)
 unfolding counted order
@@ -230,11 +239,11 @@ module _ (odd m : ℕ) (ms : List ℕ) where
 -- ---- packings
 
 -- what a packing says of n numbers in d dimensions
-abbrev pub Packs : Packing → ℕ → ℕ → Type 0
-Packs Full d n = n ≡ 2 ^ d
-Packs Half d n = 2 * n ≡ 2 ^ d
-Packs (Grade g) d n = (g ≤ d) × (size d g ≡ n)
-Packs Nothing d n = Unit {0}
+abbrev pub Packs : Option Packing → ℕ → ℕ → Type 0
+Packs (Some Full) d n = n ≡ 2 ^ d
+Packs (Some Half) d n = 2 * n ≡ 2 ^ d
+Packs (Some (Grade g)) d n = (g ≤ d) × (size d g ≡ n)
+Packs None d n = Unit {0}
 
 module _ (d n : ℕ) where
   first_fits : (k g : ℕ) → g + k ≤ d + 1 → Packs (first_grade d n k g) d n
@@ -242,7 +251,7 @@ module _ (d n : ℕ) where
   first_fits zero g h = tt
   first_fits (suc k) g h = go (eqb (size d g) n) (eqb-true (size d g) n) (first_fits k (g + 1) (omega arith))
     where
-      go : (b : Bool) → (b ≡ true → size d g ≡ n) → Packs (first_grade d n k (g + 1)) d n → Packs (cond b (Grade g) (first_grade d n k (g + 1))) d n
+      go : (b : Bool) → (b ≡ true → size d g ≡ n) → Packs (first_grade d n k (g + 1)) d n → Packs (cond b (Some (Grade g)) (first_grade d n k (g + 1))) d n
       go true e f = (omega arith, e refl)
       go false e f = f
 
@@ -254,10 +263,10 @@ module _ (d n : ℕ) where
   unfolding packing
   packing_fits odd = go (eqb n (2 ^ d)) (eqb-true n (2 ^ d)) (eqb (2 * n) (2 ^ d)) (eqb-true (2 * n) (2 ^ d))
     where
-      one : Packing
+      one : Option Packing
       one = first_grade d n (side_end odd d - side_start odd d) (side_start odd d)
 
-      go : (b : Bool) → (b ≡ true → n ≡ 2 ^ d) → (c : Bool) → (c ≡ true → 2 * n ≡ 2 ^ d) → Packs (cond b Full (cond c Half one)) d n
+      go : (b : Bool) → (b ≡ true → n ≡ 2 ^ d) → (c : Bool) → (c ≡ true → 2 * n ≡ 2 ^ d) → Packs (cond b (Some Full) (cond c (Some Half) one)) d n
       go true e c f = e refl
       go false e true f = f refl
       go false e false f = first_fits (side_end odd d - side_start odd d) (side_start odd d) (side odd)
@@ -269,12 +278,12 @@ pub record First (d n k g h : ℕ) : Type 0 where
   pub sized : size d h ≡ n
   pub first : (j : ℕ) → g ≤ j → j < h → size d j ≡ n → ⊥
 
-pub first_is : (d n k g h : ℕ) → first_grade d n k g ≡ Grade h → First d n k g h
+pub first_is : (d n k g h : ℕ) → first_grade d n k g ≡ Some (Grade h) → First d n k g h
 unfolding first_grade
 first_is d n zero g h e = absurd (let z : ◌≡◌ {A = ℕ} 0 1 = cc in omega arith)
 first_is d n (suc k) g h e = go (eqb (size d g) n) (eqb-true (size d g) n) (eqb-false (size d g) n) e (first_is d n k (g + 1) h)
   where
-    go : (b : Bool) → (b ≡ true → size d g ≡ n) → (b ≡ false → size d g ≡ n → ⊥) → cond b (Grade g) (first_grade d n k (g + 1)) ≡ Grade h → (first_grade d n k (g + 1) ≡ Grade h → First d n k (g + 1) h) → First d n (suc k) g h
+    go : (b : Bool) → (b ≡ true → size d g ≡ n) → (b ≡ false → size d g ≡ n → ⊥) → cond b (Some (Grade g)) (first_grade d n k (g + 1)) ≡ Some (Grade h) → (first_grade d n k (g + 1) ≡ Some (Grade h) → First d n k (g + 1) h) → First d n (suc k) g h
     go true y z q f =
         let w : g ≡ h = cc in
         record { from = omega arith; within = omega arith; sized = ap (size d) (sym w) ∙ y refl; first = λ j l m s. omega arith }
@@ -288,25 +297,22 @@ first_is d n (suc k) g h e = go (eqb (size d g) n) (eqb-true (size d g) n) (eqb-
               elim (ℕ_discrete g j) [ yes w ↦ z refl (ap (size d) w ∙ s) | no w ↦ r.first j (omega arith) m s ];
         }
 
-module _ (d n g end : ℕ) where
-  pub first_found : g < end → size d g ≡ n → first_grade d n (end - g) g ≡ Grade g
-  unfolding first_grade
-  first_found l e = let s : end - g ≡ suc (end - (g + 1)) = omega arith in rw (s, eq-eqb _ _ e)
-
-  pub first_passed : g < end → (size d g ≡ n → ⊥) → first_grade d n (end - g) g ≡ first_grade d n (end - (g + 1)) (g + 1)
-  unfolding first_grade
-  first_passed l e = let s : end - g ≡ suc (end - (g + 1)) = omega arith in rw (s, ne_eqb _ _ e)
-
-  pub first_none : end ≤ g → first_grade d n (end - g) g ≡ Nothing
-  unfolding first_grade
-  first_none l = let s : end - g ≡ 0 = omega arith in rw s
+-- the first of a range of grades that has n numbers
+pub grade_found : (d n k g : ℕ) → option_map (λ h. Grade h) (find (λ h. eqb (size d h) n) (range_with_len g k)) ≡ first_grade d n k g
+unfolding first_grade
+grade_found d n zero g = refl
+grade_found d n (suc k) g = go (eqb (size d g) n) (grade_found d n k (g + 1))
+  where
+    go : (b : Bool) → option_map (λ h. Grade h) (find (λ h. eqb (size d h) n) (range_with_len (g + 1) k)) ≡ first_grade d n k (g + 1) → option_map (λ h. Grade h) (cond b (Some g) (find (λ h. eqb (size d h) n) (range_with_len (g + 1) k))) ≡ cond b (Some (Grade g)) (first_grade d n k (g + 1))
+    go true e = refl
+    go false e = e
 
 module _ (odd d n : ℕ) where
-  pub packing_full : n ≡ 2 ^ d → packing odd d n ≡ Full
+  pub packing_full : n ≡ 2 ^ d → packing odd d n ≡ Some Full
   unfolding packing
   packing_full e = rw (eq-eqb n (2 ^ d) e)
 
-  pub packing_half : (n ≡ 2 ^ d → ⊥) → 2 * n ≡ 2 ^ d → packing odd d n ≡ Half
+  pub packing_half : (n ≡ 2 ^ d → ⊥) → 2 * n ≡ 2 ^ d → packing odd d n ≡ Some Half
   unfolding packing
   packing_half e h = rw (ne_eqb n (2 ^ d) e, eq-eqb (2 * n) (2 ^ d) h)
 
@@ -315,25 +321,25 @@ module _ (odd d n : ℕ) where
   packing_one e h = rw (ne_eqb n (2 ^ d) e, ne_eqb (2 * n) (2 ^ d) h)
 
 -- where it is one grade, the first of that size on its side
-pub packing_first : (odd d n h : ℕ) → packing odd d n ≡ Grade h → First d n (side_end odd d - side_start odd d) (side_start odd d) h
+pub packing_first : (odd d n h : ℕ) → packing odd d n ≡ Some (Grade h) → First d n (side_end odd d - side_start odd d) (side_start odd d) h
 unfolding packing
 packing_first odd d n h e = go (eqb n (2 ^ d)) (eqb (2 * n) (2 ^ d)) e
   where
     k : ℕ
     k = side_end odd d - side_start odd d
 
-    go : (b c : Bool) → cond b Full (cond c Half (first_grade d n k (side_start odd d))) ≡ Grade h → First d n k (side_start odd d) h
+    go : (b c : Bool) → cond b (Some Full) (cond c (Some Half) (first_grade d n k (side_start odd d))) ≡ Some (Grade h) → First d n k (side_start odd d) h
     go true c q = absurd (let z : ◌≡◌ {A = ℕ} 0 1 = cc in omega arith)
     go false true q = absurd (let z : ◌≡◌ {A = ℕ} 0 1 = cc in omega arith)
     go false false q = first_is d n k (side_start odd d) h q
 
+-- past both tests it is the first grade of the side
 module _ (d n : ℕ) (f : n ≡ 2 ^ d → ⊥) (h : 2 * n ≡ 2 ^ d → ⊥) where
-  pub packing_left : (odd : ℕ) → odd ≡ 0 → packing odd d n ≡ first_grade d n ((d + 2) / 2 - 0) 0
-  packing_left odd e = rw e (packing_one 0 d n f h)
+  pub packing_even : packing 0 d n ≡ first_grade d n ((d + 2) / 2 - 0) 0
+  packing_even = packing_one 0 d n f h
 
-  pub packing_right : (odd : ℕ) → (odd ≡ 0 → ⊥) → packing odd d n ≡ first_grade d n (d + 1 - (d + 1) / 2) ((d + 1) / 2)
-  packing_right zero e = absurd (e refl)
-  packing_right (suc odd) e = packing_one (suc odd) d n f h
+  pub packing_odd : packing 1 d n ≡ first_grade d n (d + 1 - (d + 1) / 2) ((d + 1) / 2)
+  packing_odd = packing_one 1 d n f h
 
 -- ---- refusals
 
@@ -370,7 +376,7 @@ module _ (n room : ℕ) where
   unfolding refusal
   enough l = rw (le-ltb n 2 l)
 
-module _ (d : ℕ) (p : Packing) (room : ℕ) where
+module _ (d : ℕ) (p : Option Packing) (room : ℕ) where
   pub pack_wide : 9 < d → refusal (packed_tests d p room) ≡ 1
   pack_wide h = refused_first (too_many d) _ (lt-ltb 9 d h)
 
@@ -398,17 +404,17 @@ unfolding n_1_blades one_grade
 n1_one v f room m = rw (enough (length v) room m)
 
 module _ (odd d : ℕ) (v : List Float) (f : Flavor) (room : ℕ) (h : d ≤ 9) (l : 2 ^ d ≤ room) where
-  packed_built : (p : Packing) → packing odd d (length v) ≡ p → unpacked p ≡ false → blades_of_side odd d v f room ≡ packed p odd d v f
+  packed_built : (p : Option Packing) → packing odd d (length v) ≡ p → unpacked p ≡ false → blades_of_side odd d v f room ≡ packed p odd d v f
   unfolding blades_of_side
   packed_built p e u = rw e (unless_done refused_value _ 0 _ (sym (pack_done d p room h u l)) refl)
 
   -- a full set is taken as it stands and becomes Vanilla
   pub full_built : length v ≡ 2 ^ d → blades_of_side odd d v f room ≡ value (shape_of d Vanilla) v
-  full_built e = packed_built Full (packing_full odd d (length v) e) refl
+  full_built e = packed_built (Some Full) (packing_full odd d (length v) e) refl
 
   pub half_built : 2 * length v ≡ 2 ^ d → blades_of_side odd d v f room ≡ value (shape_of d f) (spread odd (order d) v)
   half_built e =
-      packed_built Half (packing_half odd d (length v) (λ q. omega (arith, pow_pos d)) e) refl
+      packed_built (Some Half) (packing_half odd d (length v) (λ q. omega (arith, pow_pos d)) e) refl
 
-  pub grade_built : (g : ℕ) → packing odd d (length v) ≡ Grade g → blades_of_side odd d v f room ≡ value (shape_of d f) (at_grade d g v)
-  grade_built g e = packed_built (Grade g) e refl
+  pub grade_built : (g : ℕ) → packing odd d (length v) ≡ Some (Grade g) → blades_of_side odd d v f room ≡ value (shape_of d f) (at_grade d g v)
+  grade_built g e = packed_built (Some (Grade g)) e refl

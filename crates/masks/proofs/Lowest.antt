@@ -6,6 +6,7 @@ use Prim.Native.Nat.{ℕ, zero, suc, ◌≤◌, ◌<◌}
 use native.Mathlib.Nat.{le_refl, le_trans, le_of_suc-le-suc, not-suc-le-zero}
 use lib.Dec.{T, leb, leb→le}
 use lib.ListN.{length, get_or}
+use Rattle.std.specs.Prelude.{Option}
 use Rattle.masks.specs.declared.build.Packing.{Packing}
 use Rattle.masks.specs.declared.flavor.Flavor.{Flavor}
 use Rattle.masks.specs.Outcome.{Test, refusal, value_tests, result_tests, pair_tests}
@@ -70,7 +71,7 @@ built_rises d room = tt
 pub n1_rises : (n room : ℕ) → T (rises 1 (n_1_tests n room))
 n1_rises n room = tt
 
-pub packed_rises : (d : ℕ) (p : Packing) (room : ℕ) → T (rises 1 (packed_tests d p room))
+pub packed_rises : (d : ℕ) (p : Option Packing) (room : ℕ) → T (rises 1 (packed_tests d p room))
 packed_rises d p room = tt
 
 pub read_rises : (t : List ℕ) → T (rises 1 (read_tests t))

@@ -12,7 +12,7 @@ use Rattle.std.specs.Prelude.{Result, Ok, Err}
 use Rattle.masks.specs.declared.outcome.Refusal.{Refusal}
 use Rattle.masks.specs.declared.outcome.Refusal.TheVariants.{TooManyDims, WrongCount, NoRoom, NoSuchGrade, Planar, LeastPower, NoFlavor, NoSpec, Malformed, BadLog}
 use Rattle.masks.specs.declared.shape.Shape.{Shape}
-use Rattle.masks.specs.Order.{order, GivesOrder}
+use Rattle.masks.specs.Order.{GivesOrder}
 use Rattle.masks.specs.Outcome.{Test, refusal, too_many, wrong_count, no_room, result_tests, pair_tests, number_of, IsAnswer, unless, laid, Outcome, refused_value, Gives, Pair, refused_pair, GivesBoth, Written, refused_list, Writes}
 
 -- ---- lists of tests

@@ -3,7 +3,7 @@ use mathlib.Core.Path.{◌≡◌, refl, sym, ap, ap₂, ◌∙◌}
 use mathlib.Core.Bool.{Bool, true, false, ◌&&◌, ◌||◌, cond, and-true, and-false, and_comm, or_comm, false≢true, not-not}
 use mathlib.Core.Logic.{⊎_elim}
 use mathlib.Core.List.{List, [], ◌∷◌, map}
-use Prim.Native.Nat.{ℕ, zero, suc, ◌+◌, ◌*◌, ◌/◌, ◌%◌, ◌^◌, ◌≤◌, ◌<◌}
+use Prim.Native.Nat.{ℕ, zero, suc, ◌+◌, ◌*◌, ◌/◌, ◌%◌, ◌^◌, ◌≤◌, ◌<◌, min}
 use native.Mathlib.Nat.{pow-suc, add-zero}
 use native.Mathlib.Numerals.{add-one}
 use native.Mathlib.Omega.{arith}
@@ -238,8 +238,8 @@ promotes_le Projective g = omega arith
 promotes_le (Cl p n z) g = omega arith
 
 -- The code's dimensions of a promoted value are the definition's where the given ones are at most 9.
-pub promoted_small : (d up n : ℕ) → n ≡ cond (ltb 9 d) 10 (d + up) → d ≤ 9 → n ≡ d + up
-promoted_small d up n e l = e ∙ rw (le-ltb 9 d l)
+pub promoted_small : (d up n : ℕ) → n ≡ min (d + up) 255 → up ≤ 1 → d ≤ 9 → n ≡ d + up
+promoted_small d up n e l h = omega arith
 
 pub flavor_one : (up : ℕ) (f : Flavor) → (up ≡ 0 → ⊥) → Projective ≡ promoted_flavor up f
 flavor_one zero f h = absurd (h refl)

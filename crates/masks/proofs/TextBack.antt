@@ -12,8 +12,7 @@ use borrow.Author.Tests.{leb-true, le-leb, lt-leb, ne_eqb}
 use Rattle.masks.specs.inner.Text.{spec_of, read_cl}
 use Rattle.masks.specs.declared.flavor.Flavor.{Flavor}
 use Rattle.masks.specs.declared.flavor.Flavor.TheVariants.{Vanilla, Projective, Cl}
-use Rattle.masks.specs.declared.text.Octet.{Octet}
-use Rattle.masks.specs.declared.text.Octet.TheVariants.{Is, Missing}
+use Rattle.std.specs.Prelude.{Option, None, Some}
 use Rattle.masks.specs.Outcome.{refusal, unless, Written, refused_list, listed}
 use Rattle.masks.specs.Text.{blank, separator, in_part, decimal_digit, take_while, drop_while, every, same, decimal_value, unsigned, octet_of, octet, or_zero, part, after_part, read_as, refused_read, decimal, spaced, text_of, trimmed, is_spec, cl_of, read_flavor, write_tests, write_flavor, vga}
 use Rattle.masks.proofs.ListLaws.{split}
@@ -154,14 +153,14 @@ decimal_value_lem n =
 decimal_word : (n : ℕ) → n < 256 → Word (decimal n)
 decimal_word n h = record { filled = (decimal_long n).0; digital = decimal_digits n (omega arith) }
 
-pub octet_decimal : (n : ℕ) → n < 256 → octet (decimal n) ≡ Is n
+pub octet_decimal : (n : ℕ) → n < 256 → octet (decimal n) ≡ Some n
 unfolding octet
 octet_decimal n h =
     let d = decimal_word n h in
     let v = decimal_value_lem n in
     ap octet_of (unsigned_word (decimal n) d)
     ∙ octet_is (decimal n) d.filled d.digital (omega arith)
-    ∙ ap Is v
+    ∙ ap Some v
 
 -- ---- a flavor is read back
 
@@ -176,7 +175,7 @@ unfolding read_text read_cl every same
 read_letters w e = read_steps (67 ∷ 108 ∷ w) ∙ (rw e)
 
 -- the spec of a text whose parts are known
-spec_parts : (t r s u : List ℕ) (p : ℕ) (a b : Octet) → octet (part t) ≡ Is p → octet (part r) ≡ a → octet (part s) ≡ b → after_part t ≡ r → after_part r ≡ s → after_part s ≡ u → part u ≡ [] → spec_of t ≡ read_as (Cl p (or_zero a) (or_zero b))
+spec_parts : (t r s u : List ℕ) (p : ℕ) (a b : Option ℕ) → octet (part t) ≡ Some p → octet (part r) ≡ a → octet (part s) ≡ b → after_part t ≡ r → after_part r ≡ s → after_part s ≡ u → part u ≡ [] → spec_of t ≡ read_as (Cl p (or_zero a) (or_zero b))
 spec_parts t r s u p a b e f g h k l m = spec_read t p e (rw (h, k, l, m)) ∙ (rw (h, k, f, g))
 
 -- no part is left
@@ -188,7 +187,7 @@ none_after : after_part [] ≡ []
 unfolding after_part drop_while
 none_after = refl
 
-none_octet : octet (part []) ≡ Missing
+none_octet : octet (part []) ≡ None
 unfolding octet octet_of unsigned part take_while drop_while
 none_octet = refl
 
@@ -227,26 +226,26 @@ unfolding trimmed drop_while
 trimmed_space t = refl
 
 -- one, two and three words
-module _ (w : List ℕ) (p : ℕ) (d : Word w) (o : octet w ≡ Is p) where
+module _ (w : List ℕ) (p : ℕ) (d : Word w) (o : octet w ≡ Some p) where
   spec_one : spec_of (trimmed w) ≡ read_as (Cl p 0 0)
   spec_one =
       ap spec_of (trimmed_alone w d)
-      ∙ spec_parts w [] [] [] p Missing Missing (ap octet (part_alone w d) ∙ o) none_octet none_octet (after_alone w d) none_after none_after none_part
+      ∙ spec_parts w [] [] [] p None None (ap octet (part_alone w d) ∙ o) none_octet none_octet (after_alone w d) none_after none_after none_part
 
-  module _ (v : List ℕ) (n : ℕ) (f : Word v) (q : octet v ≡ Is n) where
+  module _ (v : List ℕ) (n : ℕ) (f : Word v) (q : octet v ≡ Some n) where
     spec_two : spec_of (trimmed (32 ∷ (w ++ 32 ∷ v))) ≡ read_as (Cl p n 0)
     spec_two =
         ap spec_of (trimmed_space (w ++ 32 ∷ v) ∙ trimmed_words w (32 ∷ v) (w ++ (32 ∷ [])) v d f (sym (append_snoc w 32 v)))
-        ∙ spec_parts (w ++ 32 ∷ v) (32 ∷ v) [] [] p (Is n) Missing (ap octet (part_first w d v) ∙ o)
+        ∙ spec_parts (w ++ 32 ∷ v) (32 ∷ v) [] [] p (Some n) None (ap octet (part_first w d v) ∙ o)
         (ap octet (part_space v ∙ part_alone v f) ∙ q) none_octet (after_first w d v) (after_space v ∙ after_alone v f) none_after none_part
 
-    spec_three : (u : List ℕ) (z : ℕ) → Word u → octet u ≡ Is z → spec_of (trimmed (32 ∷ (w ++ 32 ∷ v ++ 32 ∷ u))) ≡ read_as (Cl p n z)
+    spec_three : (u : List ℕ) (z : ℕ) → Word u → octet u ≡ Some z → spec_of (trimmed (32 ∷ (w ++ 32 ∷ v ++ 32 ∷ u))) ≡ read_as (Cl p n z)
     spec_three u z g k =
         let t : List ℕ = 32 ∷ (v ++ 32 ∷ u) in
         let e : w ++ 32 ∷ v ++ 32 ∷ u ≡ w ++ t = append_assoc w (32 ∷ v) (32 ∷ u) in
         let m : w ++ t ≡ (w ++ 32 ∷ v ++ (32 ∷ [])) ++ u = sym e ∙ sym (append_snoc (w ++ 32 ∷ v) 32 u) in
         ap spec_of (trimmed_space (w ++ 32 ∷ v ++ 32 ∷ u) ∙ ap trimmed e ∙ trimmed_words w t (w ++ 32 ∷ v ++ (32 ∷ [])) u d g m)
-        ∙ spec_parts (w ++ t) t (32 ∷ u) [] p (Is n) (Is z) (ap octet (part_first w d (v ++ 32 ∷ u)) ∙ o)
+        ∙ spec_parts (w ++ t) t (32 ∷ u) [] p (Some n) (Some z) (ap octet (part_first w d (v ++ 32 ∷ u)) ∙ o)
         (ap octet (part_space (v ++ 32 ∷ u) ∙ part_first v f u) ∙ q) (ap octet (part_space u ∙ part_alone u g) ∙ k)
         (after_first w d (v ++ 32 ∷ u)) (after_space (v ++ 32 ∷ u) ∙ after_first v f u) (after_space u ∙ after_alone u g) none_part
 

@@ -11,9 +11,9 @@ use lib.Seq.{drop-cons, sets}
 use borrow.Author.Tests.{le-leb, lt-leb, lt-ltb, le-ltb, eq-eqb, ne_eqb}
 use Rattle.masks.specs.declared.flavor.Flavor.{Flavor}
 use Rattle.masks.specs.declared.flavor.Flavor.TheVariants.{Vanilla, Projective, Cl}
-use Rattle.masks.specs.declared.text.Octet.{Octet}
-use Rattle.masks.specs.declared.text.Octet.TheVariants.{Is, Missing}
-use Rattle.masks.specs.Outcome.{refusal, unless}
+use Rattle.std.specs.Prelude.{Option, None, Some, Ok, Err}
+use Rattle.masks.specs.declared.outcome.Refusal.{Refusal}
+use Rattle.masks.specs.Outcome.{refusal, number_of, IsAnswer, unless}
 use Rattle.masks.specs.inner.Text.{spec, spec_of, read_cl}
 use Rattle.masks.specs.Text.{decimal_digit, every, same, decimal_value, unsigned, octet_of, octet, is_octet, or_zero, part, after_part, read_as, refused_read, vga, pga, begins_cl, spec_in, is_spec, cl_of, Read, read_flavor, decimal, spaced, text_of}
 use Rattle.masks.proofs.ListLaws.{sets_append, same_eq}
@@ -40,25 +40,25 @@ digit_above c h = rw (lt-leb c 57 h) (and-false (leb 48 c))
 pub digit_in : (c : ℕ) → 48 ≤ c → c ≤ 57 → decimal_digit c ≡ true
 digit_in c h g = rw (le-leb 48 c h, le-leb c 57 g)
 
-octet_filled : (t : List ℕ) → 0 < length t → octet_of t ≡ cond (every decimal_digit t && leb (decimal_value 0 t) 255) (Is (decimal_value 0 t)) Missing
+octet_filled : (t : List ℕ) → 0 < length t → octet_of t ≡ cond (every decimal_digit t && leb (decimal_value 0 t) 255) (Some (decimal_value 0 t)) None
 unfolding octet_of
 octet_filled [] h = absurd (omega arith)
 octet_filled (c ∷ cs) h = refl
 
 -- a number is missing where there is no byte, where one is no digit, and where it is above 255
-pub octet_empty : (t : List ℕ) → length t ≡ 0 → octet_of t ≡ Missing
+pub octet_empty : (t : List ℕ) → length t ≡ 0 → octet_of t ≡ None
 unfolding octet_of
 octet_empty [] h = refl
 octet_empty (c ∷ cs) h = absurd (omega arith)
 
 module _ (t : List ℕ) (filled : 0 < length t) where
-  octet_word : every decimal_digit t ≡ false → octet_of t ≡ Missing
+  octet_word : every decimal_digit t ≡ false → octet_of t ≡ None
   octet_word e = octet_filled t filled ∙ rw e
 
-  octet_large : 255 < decimal_value 0 t → octet_of t ≡ Missing
+  octet_large : 255 < decimal_value 0 t → octet_of t ≡ None
   octet_large h = octet_filled t filled ∙ rw (lt-leb _ 255 h, and-false)
 
-  pub octet_is : every decimal_digit t ≡ true → decimal_value 0 t ≤ 255 → octet_of t ≡ Is (decimal_value 0 t)
+  pub octet_is : every decimal_digit t ≡ true → decimal_value 0 t ≤ 255 → octet_of t ≡ Some (decimal_value 0 t)
   octet_is e h = octet_filled t filled ∙ rw (e, le-leb _ 255 h)
 
 -- v is the number of the digits before i: the tests of the whole are those of what is left
@@ -70,10 +70,10 @@ pub record Digits (t : List ℕ) (v i : ℕ) : Type 0 where
 
 module _ (t : List ℕ) (v i : ℕ) (d : Digits t v i) where
   module _ (h : i < length t) where
-    pub digits_word : decimal_digit (get_or t i 0) ≡ false → octet_of t ≡ Missing
+    pub digits_word : decimal_digit (get_or t i 0) ≡ false → octet_of t ≡ None
     digits_word e = octet_word t (omega arith) (sym d.digital ∙ every_not decimal_digit t i h e)
 
-    pub digits_large : 255 < v * 10 + (get_or t i 0 - 48) → octet_of t ≡ Missing
+    pub digits_large : 255 < v * 10 + (get_or t i 0 - 48) → octet_of t ≡ None
     digits_large g =
         octet_large t (omega arith)
         (omega (arith, d.valued, value_on t i v h, value_le (drop (i + 1) t) (v * 10 + (get_or t i 0 - 48))))
@@ -86,12 +86,12 @@ module _ (t : List ℕ) (v i : ℕ) (d : Digits t v i) where
       valued = sym (value_on t i v h) ∙ d.valued;
     }
 
-  pub digits_end : 0 < length t → length t ≤ i → octet_of t ≡ Is v
+  pub digits_end : 0 < length t → length t ≤ i → octet_of t ≡ Some v
   unfolding decimal_value
   digits_end f h =
       let e : i ≡ length t = omega arith in
       let k : decimal_value 0 t ≡ v = sym d.valued ∙ ap (decimal_value v) (drop_end t i e) in
-      octet_is t f (sym d.digital ∙ every_end decimal_digit t i e) (omega (arith, k)) ∙ ap Is k
+      octet_is t f (sym d.digital ∙ every_end decimal_digit t i e) (omega (arith, k)) ∙ ap Some k
 
 -- ---- a leading +
 
@@ -108,11 +108,11 @@ unsigned_not (c ∷ cs) h = rw (ne_eqb c 43 h)
 -- ---- the spec of a Cl flavor
 
 module _ (t : List ℕ) where
-  pub spec_missing : octet (part t) ≡ Missing → spec_of t ≡ refused_read 8
+  pub spec_missing : octet (part t) ≡ None → spec_of t ≡ refused_read 8
   unfolding spec_of
   spec_missing e = rw e
 
-  module _ (p : ℕ) (e : octet (part t) ≡ Is p) where
+  module _ (p : ℕ) (e : octet (part t) ≡ Some p) where
     -- a fourth part refuses
     pub spec_four : (length (part (after_part (after_part (after_part t)))) ≡ 0 → ⊥) → spec_of t ≡ refused_read 8
     unfolding spec_of
@@ -127,9 +127,18 @@ module _ (t : List ℕ) where
   unfolding spec_of is_spec cl_of
   spec_tested = go (octet (part t))
     where
-      go : (o : Octet) → spec o (after_part t) ≡ cond (is_octet o && same (part (after_part (after_part (after_part t)))) []) (read_as (Cl (or_zero o) (or_zero (octet (part (after_part t)))) (or_zero (octet (part (after_part (after_part t))))))) (refused_read 8)
-      go Missing = refl
-      go (Is p) = refl
+      go : (o : Option ℕ) → spec o (after_part t) ≡ cond (is_octet o && same (part (after_part (after_part (after_part t)))) []) (read_as (Cl (or_zero o) (or_zero (octet (part (after_part t)))) (or_zero (octet (part (after_part (after_part t))))))) (refused_read 8)
+      go None = refl
+      go (Some p) = refl
+
+-- ---- what is answered
+
+-- a flavor that was read, and a refusal
+pub read_done : (o : Read) (f : Flavor) → o ≡ read_as f → IsAnswer o.number o.flavor (Ok f)
+read_done o f e = rw e (refl, refl)
+
+pub read_refused : (o : Read) (x : Refusal) → o ≡ refused_read (number_of x) → IsAnswer o.number o.flavor (Err x)
+read_refused o x e = rw e refl
 
 -- ---- a text, read step by step
 
@@ -165,9 +174,6 @@ pub read_steps : (t : List ℕ) → read_flavor t ≡ read_text t
 unfolding read_flavor read_text read_cl refusal
 read_steps t =
     steps_tested (every (λ c. leb c 127) t) (same t vga) (same t pga) (begins_cl t) (is_spec (spec_in t)) (cl_of (spec_in t)) (spec_of (spec_in t)) (vga_not_cl t) (pga_not_cl t) (spec_tested (spec_in t))
-
-pub by_steps : (r : Read) (t : List ℕ) → r ≡ read_text t → r ≡ read_flavor t
-by_steps r t e = e ∙ sym (read_steps t)
 
 -- ---- what is written
 

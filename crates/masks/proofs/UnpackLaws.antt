@@ -15,6 +15,7 @@ use Rattle.masks.specs.declared.shape.Shape.{Shape}
 use Rattle.masks.specs.declared.flavor.Flavor.{Flavor}
 use Rattle.masks.specs.declared.flavor.Flavor.TheVariants.{Vanilla}
 use Rattle.masks.specs.declared.build.Packing.TheVariants.{Grade}
+use Rattle.std.specs.Prelude.{Some}
 use Rattle.masks.specs.Order.{grade, grades_below, order, size, start, index_of, place}
 use Rattle.masks.specs.Outcome.{Outcome, shape_of, refusal, result_tests, unless, laid, refused_list, listed, nought}
 use Rattle.masks.specs.Flavor.{added_dims}
@@ -293,7 +294,7 @@ module _ (odd d : ℕ) (v : List Float) (f : Flavor) (room : ℕ) (h : d ≤ 9) 
     pub own_half_round : unpack_own_half odd built.shape built.coefs into ≡ listed v
     own_half_round = rw (half_built odd d v f room h l e) (read_back odd)
 
-  pub grade_round : (g : ℕ) → packing odd d (length v) ≡ Grade g → grade_part built.shape g built.coefs ≡ v
+  pub grade_round : (g : ℕ) → packing odd d (length v) ≡ Some (Grade g) → grade_part built.shape g built.coefs ≡ v
   grade_round g e =
       let p : (g ≤ d) × (size d g ≡ length v) = subst (λ q. Packs q d (length v)) e (packing_fits d (length v) odd) in
       rw (grade_built odd d v f room h l g e) (part_back d g v f h p.0 p.1)

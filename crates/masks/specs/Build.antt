@@ -1,10 +1,12 @@
 -- Building values from few numbers. Assumes nothing.
-use Rattle.std.specs.Prelude.{Bool, true, false, cond, List, [], ◌∷◌, ◌++◌, ℕ, zero, suc, ◌+◌, ◌-◌, ◌*◌, ◌^◌, ◌/◌, ◌%◌, eqb, ltb, Float, length, replicate}
+use Rattle.std.specs.Prelude.{Bool, true, false, cond, List, [], ◌∷◌, ◌++◌, ℕ, zero, suc, ◌+◌, ◌-◌, ◌*◌, ◌^◌, ◌/◌, ◌%◌, eqb, ltb, Float, length, replicate, Option, None, Some}
 use Rattle.std.specs.Int.Count.{ones}
 use Rattle.masks.specs.declared.flavor.Flavor.{Flavor}
 use Rattle.masks.specs.declared.flavor.Flavor.TheVariants.{Vanilla}
 use Rattle.masks.specs.declared.build.Packing.{Packing}
-use Rattle.masks.specs.declared.build.Packing.TheVariants.{Full, Half, Grade, Nothing}
+use Rattle.masks.specs.declared.build.Packing.TheVariants.{Full, Half, Grade}
+use Rattle.masks.specs.declared.build.Parity.{Parity}
+use Rattle.masks.specs.declared.build.Parity.TheVariants.{Even, Odd}
 use Rattle.masks.specs.Order.{order, size, start, built_tests}
 use Rattle.masks.specs.Outcome.{Test, Outcome, refusal, too_many, no_room, unless, value, refused_value, shape_of, nought}
 use Rattle.masks.specs.Flavor.{added_dims}
@@ -46,9 +48,9 @@ pseudoscalar d x f room = one_grade (d + added_dims f) (d + added_dims f) (x ∷
 -- ---- sets of blades
 
 -- `first_grade d n k g` is the first grade of n numbers among the k grades from g on.
-unfoldable pub first_grade : ℕ → ℕ → ℕ → ℕ → Packing
-first_grade d n zero g = Nothing
-first_grade d n (suc k) g = cond (eqb (size d g) n) (Grade g) (first_grade d n k (g + 1))
+unfoldable pub first_grade : ℕ → ℕ → ℕ → ℕ → Option Packing
+first_grade d n zero g = None
+first_grade d n (suc k) g = cond (eqb (size d g) n) (Some (Grade g)) (first_grade d n k (g + 1))
 
 -- The grades of a side go left (0) from 0 through ceil((d+1)/2)-1, right (1) from floor((d+1)/2) up.
 abbrev pub side_start : ℕ → ℕ → ℕ
@@ -60,17 +62,20 @@ side_end zero d = (d + 2) / 2
 side_end (suc odd) d = d + 1
 
 -- `packing odd d n` is how n numbers fill a value of d dimensions: a full set, a half set, else the first grade of that size on its side.
-unfoldable pub packing : ℕ → ℕ → ℕ → Packing
+unfoldable pub packing : ℕ → ℕ → ℕ → Option Packing
 packing odd d n =
-    cond (eqb n (2 ^ d)) Full
-    (cond (eqb (2 * n) (2 ^ d)) Half (first_grade d n (side_end odd d - side_start odd d) (side_start odd d)))
+    cond (eqb n (2 ^ d)) (Some Full)
+    (cond (eqb (2 * n) (2 ^ d)) (Some Half) (first_grade d n (side_end odd d - side_start odd d) (side_start odd d)))
 
 -- `unpacked` holds where no packing was found.
-abbrev pub unpacked : Packing → Bool
-unpacked Full = false
-unpacked Half = false
-unpacked (Grade g) = false
-unpacked Nothing = true
+abbrev pub unpacked : Option Packing → Bool
+unpacked (Some p) = false
+unpacked None = true
+
+-- The number of a parity: 0 for even, and 1 for odd.
+abbrev pub odd_of : Parity → ℕ
+odd_of Even = 0
+odd_of Odd = 1
 
 -- A mask's number of one bits is odd (1) or even (0).
 abbrev pub of_parity : ℕ → ℕ → Bool
@@ -83,14 +88,14 @@ spread odd (m ∷ ms) [] = nought ∷ spread odd ms []
 spread odd (m ∷ ms) (x ∷ v) = cond (of_parity odd m) (x ∷ spread odd ms v) (nought ∷ spread odd ms (x ∷ v))
 
 -- A full set is taken as it stands and becomes Vanilla, whatever flavor was given; a half set fills even (left) or odd (right) grades.
-abbrev pub packed : Packing → ℕ → ℕ → List Float → Flavor → Outcome
-packed Full odd d v f = value (shape_of d Vanilla) v
-packed Half odd d v f = value (shape_of d f) (spread odd (order d) v)
-packed (Grade g) odd d v f = value (shape_of d f) (at_grade d g v)
-packed Nothing odd d v f = refused_value 2
+abbrev pub packed : Option Packing → ℕ → ℕ → List Float → Flavor → Outcome
+packed (Some Full) odd d v f = value (shape_of d Vanilla) v
+packed (Some Half) odd d v f = value (shape_of d f) (spread odd (order d) v)
+packed (Some (Grade g)) odd d v f = value (shape_of d f) (at_grade d g v)
+packed None odd d v f = refused_value 2
 
 -- The tests of packing numbers at d dimensions: 2 where no packing fits.
-abbrev pub packed_tests : ℕ → Packing → ℕ → List Test
+abbrev pub packed_tests : ℕ → Option Packing → ℕ → List Test
 packed_tests d p room = too_many d ∷ record { fails = unpacked p; number = 2 } ∷ no_room room (2 ^ d) ∷ []
 
 -- `blades_of_side` is `blades_left` (0) and `blades_right` (1).

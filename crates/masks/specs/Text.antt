@@ -1,9 +1,7 @@
 -- The text of a flavor, read and written, as a list of bytes. Assumes nothing.
-use Rattle.std.specs.Prelude.{Bool, true, false, not, ◌&&◌, ◌||◌, cond, List, [], ◌∷◌, ◌++◌, reverse, ℕ, ◌+◌, ◌-◌, ◌*◌, ◌/◌, ◌%◌, eqb, leb, ltb, length, take, drop}
+use Rattle.std.specs.Prelude.{Bool, true, false, not, ◌&&◌, ◌||◌, cond, List, [], ◌∷◌, ◌++◌, reverse, ℕ, ◌+◌, ◌-◌, ◌*◌, ◌/◌, ◌%◌, eqb, leb, ltb, length, take, drop, Option, None, Some}
 use Rattle.masks.specs.declared.flavor.Flavor.{Flavor}
 use Rattle.masks.specs.declared.flavor.Flavor.TheVariants.{Vanilla, Projective, Cl}
-use Rattle.masks.specs.declared.text.Octet.{Octet}
-use Rattle.masks.specs.declared.text.Octet.TheVariants.{Is, Missing}
 use Rattle.masks.specs.Outcome.{Test, Written, refusal, no_room, unless, refused_list, listed}
 
 -- ---- bytes
@@ -71,24 +69,24 @@ unsigned [] = []
 unsigned (c ∷ cs) = cond (eqb c 43) cs (c ∷ cs)
 
 -- A u8 is at least one digit, and its digits make a number of at most 255.
-unfoldable pub octet_of : List ℕ → Octet
-octet_of [] = Missing
+unfoldable pub octet_of : List ℕ → Option ℕ
+octet_of [] = None
 octet_of (c ∷ cs) =
-    cond (every decimal_digit (c ∷ cs) && leb (decimal_value 0 (c ∷ cs)) 255) (Is (decimal_value 0 (c ∷ cs))) Missing
+    cond (every decimal_digit (c ∷ cs) && leb (decimal_value 0 (c ∷ cs)) 255) (Some (decimal_value 0 (c ∷ cs))) None
 
 -- `octet` reads a part as a u8: a leading + and zeros are allowed.
-unfoldable pub octet : List ℕ → Octet
+unfoldable pub octet : List ℕ → Option ℕ
 octet p = octet_of (unsigned p)
 
 -- `is_octet` holds of a part that is a u8.
-abbrev pub is_octet : Octet → Bool
-is_octet (Is n) = true
-is_octet Missing = false
+abbrev pub is_octet : Option ℕ → Bool
+is_octet (Some n) = true
+is_octet None = false
 
 -- What is no u8 counts as 0.
-abbrev pub or_zero : Octet → ℕ
-or_zero (Is n) = n
-or_zero Missing = 0
+abbrev pub or_zero : Option ℕ → ℕ
+or_zero (Some n) = n
+or_zero None = 0
 
 -- ---- reading
 

@@ -2,7 +2,7 @@
 ghost use Rattle.std.specs.Prelude.{◌≡◌};
 ghost use Rattle.masks.specs.Flavor.{metric_of, metric_value, null_flavor, added_dims};
 
-#[derive(Clone, Copy)]
+#[derive(Clone, Copy, PartialEq, Eq, Debug)]
 pub enum Flavor {
     Vanilla,
     Projective,
@@ -10,11 +10,11 @@ pub enum Flavor {
 }
 
 // What a basis vector squares to: -1, 0 or 1.
-#[derive(Clone, Copy)]
+#[derive(Clone, Copy, PartialEq, Eq, Debug)]
 pub enum Metric {
-    Minus,
-    Zero,
-    Plus,
+    Minus = -1,
+    Zero = 0,
+    Plus = 1,
 }
 
 fn metric_cl(n: u8, z: u8, index: u8) -> Metric

@@ -1,4 +1,5 @@
 // Coefficients read by mask and by grade, and written from the front of an output: what changes of shape, building and unpacking share.
+// A value's dimensions and its numbers are passed apart, as every public call takes them: a struct of both would be made anew for each call.
 ghost use Rattle.std.specs.Prelude.{◌≡◌, map, ◌+◌, ◌^◌, ◌≤◌, ◌<◌, length, take, drop, replicate};
 ghost use Rattle.std.proofs.lemmas.List.Edits.{sets};
 ghost use Rattle.masks.specs.Order.{order};
@@ -7,6 +8,7 @@ ghost use Rattle.masks.specs.Shape.{coef, negates, resized, promoted, conformed}
 
 use super::order::{blades, place_of, size_of};
 use super::walk::{grow, shrink};
+use std::cmp::Ordering;
 
 // The coefficient of a mask: +0 for a mask outside.
 pub(crate) fn coefficient(dims: u8, a: &[f64], mask: usize) -> f64
@@ -25,11 +27,7 @@ pub(crate) fn copy_all(a: &[f64], out: &mut [f64])
     requires { length a.now ≤ length out.old }
     ensures { out.new ≡ laid a.now out.old }
 {
-    let mut k: usize = 0;
-    while k < a.len() {
-        out[k] = a[k];
-        k += 1;
-    }
+    out[..a.len()].copy_from_slice(a);
 }
 
 // `count` numbers from the place `first` on, written from the place `at` on.
@@ -37,11 +35,7 @@ pub(crate) fn copy_part(a: &[f64], first: usize, count: usize, out: &mut [f64], 
     requires { (first + count ≤ length a.now) × (at + count ≤ length out.old) }
     ensures { out.new ≡ sets out.old at (take count (drop first a.now)) }
 {
-    let mut k: usize = 0;
-    while k < count {
-        out[at + k] = a[first + k];
-        k += 1;
-    }
+    out[at..at + count].copy_from_slice(&a[first..first + count]);
 }
 
 // +0 at `count` places from `at` on.
@@ -49,11 +43,7 @@ pub(crate) fn clear_part(count: usize, out: &mut [f64], at: usize)
     requires { at + count ≤ length out.old }
     ensures { out.new ≡ sets out.old at (replicate count nought) }
 {
-    let mut k: usize = 0;
-    while k < count {
-        out[at + k] = 0.0;
-        k += 1;
-    }
+    out[at..at + count].fill(0.0);
 }
 
 // All coefficients at d dimensions.
@@ -61,15 +51,11 @@ pub(crate) fn read_all(dims: u8, d: u8, a: &[f64], out: &mut [f64])
     requires { (dims ≤ 9) × (d ≤ 9) × (length a.now ≡ 2 ^ dims) × (2 ^ d ≤ length out.old) }
     ensures { out.new ≡ laid (map (coef dims a.now) (order d)) out.old }
 {
-    if dims == d {
-        copy_all(a, out);
-        return;
+    match dims.cmp(&d) {
+        Ordering::Less => grow(dims, d, a, out),
+        Ordering::Equal => copy_all(a, out),
+        Ordering::Greater => shrink(dims, d, a, out),
     }
-    if dims < d {
-        grow(dims, d, a, out);
-        return;
-    }
-    shrink(dims, d, a, out);
 }
 
 // Whether a change of dimensions negates mask 101.
@@ -107,12 +93,10 @@ fn promote(dims: u8, a: &[f64], out: &mut [f64])
     let mut below: usize = 1;
     let mut i: usize = 1;
     let mut k: usize = 1;
-    let mut g: u8 = 0;
-    while g <= dims {
+    for g in 0..dims + 1 {
         clear_part(below, out, k);
         k += below;
-        g += 1;
-        below = size_of(dims, g);
+        below = size_of(dims, g + 1);
         copy_part(a, i, below, out, k);
         i += below;
         k += below;
@@ -136,17 +120,4 @@ pub(crate) fn conform_by(up: u8, dims: u8, new_dims: u8, a: &[f64], out: &mut [f
     promote(dims, a, &mut held);
     let count = blades(dims + 1);
     resize(dims + 1, new_dims, &held[..count], out);
-}
-
-// The same, where the dimensions may stay: then it is copied.
-pub(crate) fn conform_one(up: u8, dims: u8, new_dims: u8, a: &[f64], out: &mut [f64])
-    requires up_bound { (up ≤ 1) × (dims + up ≤ 9) × (new_dims ≤ 9) × (length a.now ≡ 2 ^ dims) × (2 ^ new_dims ≤ length out.old) }
-    requires up_value { dims ≡ new_dims → up ≡ 0 }
-    ensures { out.new ≡ laid (conformed up dims new_dims a.now) out.old }
-{
-    if dims == new_dims {
-        copy_all(a, out);
-        return;
-    }
-    conform_by(up, dims, new_dims, a, out);
 }

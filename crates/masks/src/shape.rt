@@ -1,16 +1,14 @@
 // Shapes and their changes.
 ghost use Rattle.std.specs.Prelude.{◌≡◌, cond, ◌+◌, ◌^◌, ◌≤◌, max, ltb, length};
-ghost use Rattle.masks.specs.Outcome.{Gives, GivesBoth, refusal, laid};
-ghost use Rattle.masks.specs.Shape.{with_dims, with_flavor, promotes, conformed, conformed_shape, set_dims, set_flavor, conform_to, both_tests, conform};
+ghost use Rattle.masks.specs.Outcome.{IsAnswer, Gives, GivesBoth, refusal, laid};
+ghost use Rattle.masks.specs.Shape.{with_dims, with_flavor, promotes, conformed, conformed_shape, set_dims, set_flavor, conform_to, both_tests, conform, agree};
 
 use super::flavor::Flavor;
-use super::gather::{conform_by, conform_one};
+use super::gather::conform_by;
 use super::order::{blades, blades_or_none};
-use super::outcome::{
-    Answer, Answers, DONE, MAX_DIMS, NO_ROOM, done, pair_refusal, refusal_of, refused, refused_pair,
-};
+use super::outcome::{MAX_DIMS, Refusal, pair_refusal, refusal_of};
 
-#[derive(Clone, Copy)]
+#[derive(Clone, Copy, PartialEq, Eq, Debug)]
 pub struct Shape {
     pub dims: u8,
     pub flavor: Flavor,
@@ -21,34 +19,13 @@ pub fn promotion(f: Flavor, g: Flavor) -> u8
     ensures { result ≡ promotes f g }
 {
     match f {
-        Flavor::Vanilla => match g {
-            Flavor::Vanilla => 0,
-            Flavor::Projective => 1,
-            Flavor::Cl(_, _, _) => 0,
-        },
+        Flavor::Vanilla => g.added_dims(),
         Flavor::Projective => 0,
         Flavor::Cl(_, _, _) => 0,
     }
 }
 
-// The dimensions of a value promoted by `up`, 0 or 1: 10 where they are above 9 already, which is refused.
-fn promoted_dims(dims: u8, up: u8) -> u8
-    requires { up ≤ 1 }
-    ensures { result ≡ cond (ltb 9 dims) 10 (dims + up) }
-{
-    if MAX_DIMS < dims {
-        return 10;
-    }
-    dims + up
-}
-
-fn larger(a: u8, b: u8) -> u8
-    ensures { result ≡ max a b }
-{
-    if a < b { b } else { a }
-}
-
-// The number that conforming two values to `res` dimensions is refused with, or 0.
+// Whether conforming two values to `res` dimensions is refused.
 fn conform_refusal(
     dims: u8,
     other: u8,
@@ -57,42 +34,14 @@ fn conform_refusal(
     count_right: usize,
     room: usize,
     room_right: usize,
-) -> u8
-    ensures { result ≡ refusal (both_tests dims other res count count_right room room_right) }
+) -> Result<(), Refusal>
+    ensures { IsAnswer (refusal (both_tests dims other res count count_right room room_right)) tt result }
 {
-    let no = pair_refusal(dims, other, res, count, count_right, room);
-    if no != DONE {
-        return no;
-    }
+    pair_refusal(dims, other, res, count, count_right, room)?;
     if room_right < blades(res) {
-        return NO_ROOM;
+        return Err(Refusal::NoRoom);
     }
-    DONE
-}
-
-// Two values, each promoted by its `up` dimensions, 0 or 1, and then at n.
-fn conform_both(
-    up: u8,
-    dims: u8,
-    up_right: u8,
-    other: u8,
-    n: u8,
-    a: &[f64],
-    b: &[f64],
-    out: &mut [f64],
-    out_right: &mut [f64],
-)
-    requires up_bound { (up ≤ 1) × (up_right ≤ 1) × (dims + up ≤ n) × (other + up_right ≤ n) × (n ≤ 9) }
-    requires a_len { (length a.now ≡ 2 ^ dims) × (length b.now ≡ 2 ^ other) × (2 ^ n ≤ length out.old) × (2 ^ n ≤ length out_right.old) }
-    ensures { (out.new ≡ laid (conformed up dims n a.now) out.old) × (out_right.new ≡ laid (conformed up_right other n b.now) out_right.old) }
-{
-    if larger(dims, other) == n {
-        conform_one(up, dims, n, a, out);
-        conform_one(up_right, other, n, b, out_right);
-        return;
-    }
-    conform_by(up, dims, n, a, out);
-    conform_by(up_right, other, n, b, out_right);
+    Ok(())
 }
 
 impl Shape {
@@ -114,6 +63,15 @@ impl Shape {
         }
     }
 
+    // Whether two values conform as they stand.
+    pub fn agrees(self, other: Shape) -> bool
+        ensures { result ≡ agree self other }
+    {
+        let own = self.flavor;
+        let theirs = other.flavor;
+        self.dims == other.dims && promotion(own, theirs) + promotion(theirs, own) == 0
+    }
+
     // The shape after conforming: promoted where `up` is 1, with other dimensions.
     fn conformed(self, up: u8, dims: u8) -> Shape
         ensures { result ≡ conformed_shape up self dims }
@@ -126,49 +84,40 @@ impl Shape {
     }
 
     // The value at `new_dims` dimensions.
-    pub fn set_dims(self, new_dims: u8, a: &[f64], out: &mut [f64]) -> Answer
+    pub fn set_dims(self, new_dims: u8, a: &[f64], out: &mut [f64]) -> Result<Shape, Refusal>
         ensures { Gives (set_dims self new_dims a.now (length out.old)) result out.old out.new }
     {
         let dims = self.dims;
-        let no = refusal_of(dims, new_dims, a.len(), out.len(), blades_or_none(new_dims));
-        if no != DONE {
-            return refused(no);
-        }
-        conform_one(0, dims, new_dims, a, out);
-        done(self.with_dims(new_dims))
+        refusal_of(dims, new_dims, a.len(), out.len(), blades_or_none(new_dims))?;
+        conform_by(0, dims, new_dims, a, out);
+        Ok(self.with_dims(new_dims))
     }
 
     // The value in another flavor: promoted from Vanilla to Projective, else renamed.
-    pub fn set_flavor(self, flavor: Flavor, a: &[f64], out: &mut [f64]) -> Answer
+    pub fn set_flavor(self, flavor: Flavor, a: &[f64], out: &mut [f64]) -> Result<Shape, Refusal>
         ensures { Gives (set_flavor self flavor a.now (length out.old)) result out.old out.new }
     {
         let dims = self.dims;
         let own = self.flavor;
         let up = promotion(own, flavor);
-        let n = promoted_dims(dims, up);
-        let no = refusal_of(dims, n, a.len(), out.len(), blades_or_none(n));
-        if no != DONE {
-            return refused(no);
-        }
-        conform_one(up, dims, n, a, out);
-        done(self.with_dims(n).with_flavor(flavor))
+        let n = dims.saturating_add(up);
+        refusal_of(dims, n, a.len(), out.len(), blades_or_none(n))?;
+        conform_by(up, dims, n, a, out);
+        Ok(self.with_dims(n).with_flavor(flavor))
     }
 
     // The value at the flavor and the dimensions of another.
-    pub fn conform_to(self, other: Shape, a: &[f64], out: &mut [f64]) -> Answer
+    pub fn conform_to(self, other: Shape, a: &[f64], out: &mut [f64]) -> Result<Shape, Refusal>
         ensures { Gives (conform_to self other a.now (length out.old)) result out.old out.new }
     {
         let dims = self.dims;
         let own = self.flavor;
         let theirs = other.flavor;
         let up = promotion(own, theirs);
-        let n = larger(promoted_dims(dims, up), other.dims);
-        let no = refusal_of(dims, n, a.len(), out.len(), blades_or_none(n));
-        if no != DONE {
-            return refused(no);
-        }
-        conform_one(up, dims, n, a, out);
-        done(self.conformed(up, n))
+        let n = dims.saturating_add(up).max(other.dims);
+        refusal_of(dims, n, a.len(), out.len(), blades_or_none(n))?;
+        conform_by(up, dims, n, a, out);
+        Ok(self.conformed(up, n))
     }
 
     // Both values at the flavor and the dimensions that they meet in.
@@ -179,7 +128,7 @@ impl Shape {
         b: &[f64],
         out: &mut [f64],
         out_right: &mut [f64],
-    ) -> Answers
+    ) -> Result<(Shape, Shape), Refusal>
         ensures { GivesBoth (conform self other a.now b.now (length out.old) (length out_right.old)) result out.old out.new out_right.old out_right.new }
     {
         let dims = self.dims;
@@ -188,8 +137,10 @@ impl Shape {
         let theirs = other.flavor;
         let up = promotion(own, theirs);
         let up_right = promotion(theirs, own);
-        let n = larger(promoted_dims(dims, up), promoted_dims(dims_right, up_right));
-        let no = conform_refusal(
+        let n = dims
+            .saturating_add(up)
+            .max(dims_right.saturating_add(up_right));
+        conform_refusal(
             dims,
             dims_right,
             n,
@@ -197,17 +148,11 @@ impl Shape {
             b.len(),
             out.len(),
             out_right.len(),
-        );
-        if no != DONE {
-            return refused_pair(no);
-        }
-        conform_both(up, dims, up_right, dims_right, n, a, b, out, out_right);
+        )?;
+        conform_by(up, dims, n, a, out);
+        conform_by(up_right, dims_right, n, b, out_right);
         let left = self.conformed(up, n);
         let right = other.conformed(up_right, n);
-        Answers {
-            number: DONE,
-            left,
-            right,
-        }
+        Ok((left, right))
     }
 }

@@ -1,20 +1,16 @@
 // Unpacking a value by mask.
 ghost use Rattle.std.specs.Prelude.{◌≡◌, cond, map, ◌-◌, ◌≤◌, ◌<◌, ◌^◌, ltb, length};
 ghost use Rattle.masks.specs.Order.{order};
-ghost use Rattle.masks.specs.Outcome.{Writes, laid, refused_count};
+ghost use Rattle.masks.specs.Outcome.{Writes, laid};
 ghost use Rattle.masks.specs.Shape.{coef};
+ghost use Rattle.masks.specs.Build.{odd_of};
 ghost use Rattle.masks.specs.Unpack.{choose, half_masks, half_of, unpack_all, unpack_half, unpack_own_half, unpack_vector};
 
+use super::build::Parity;
 use super::gather::{coefficient, copy_part, read_all};
 use super::order::{blades, blades_or_none, size_of};
-use super::outcome::{Count, DONE, MAX_DIMS, refusal_of};
+use super::outcome::{MAX_DIMS, Refusal, refusal_of};
 use super::shape::Shape;
-
-fn none(number: u8) -> Count
-    ensures { result ≡ refused_count number }
-{
-    Count { number, count: 0 }
-}
 
 // How many even or odd blades there are.
 fn half_count(dims: u8) -> usize
@@ -23,127 +19,110 @@ fn half_count(dims: u8) -> usize
     if MAX_DIMS < dims {
         return 0;
     }
-    if dims == 0 {
-        return 1;
-    }
-    blades(dims - 1)
+    blades(dims.saturating_sub(1))
 }
 
-// The grades of one parity, even (0) or odd (1), one after the other.
-fn take_half(odd: u32, dims: u8, a: &[f64], out: &mut [f64])
-    requires { (odd ≤ 1) × (0 < dims) × (dims ≤ 9) × (length a.now ≡ 2 ^ dims) × (2 ^ (dims - 1) ≤ length out.old) }
-    ensures { out.new ≡ laid (map (coef dims a.now) (choose odd (order dims))) out.old }
+// The grades of one parity, one after the other.
+fn take_half(parity: Parity, dims: u8, a: &[f64], out: &mut [f64])
+    requires { (0 < dims) × (dims ≤ 9) × (length a.now ≡ 2 ^ dims) × (2 ^ (dims - 1) ≤ length out.old) }
+    ensures { out.new ≡ laid (map (coef dims a.now) (choose (odd_of parity) (order dims))) out.old }
 {
-    let mut i: usize = 0;
-    let mut k: usize = 0;
-    let mut g: u8 = 0;
-    while g <= dims {
+    let mut i = 0;
+    let mut k = 0;
+    for g in 0..=dims {
         let count = size_of(dims, g);
-        if g as u32 % 2 == odd {
+        if parity.has(g) {
             copy_part(a, i, count, out, k);
             k += count;
         }
         i += count;
-        g += 1;
     }
 }
 
-// The even (0) or odd (1) blades at d dimensions; where d is 0, the coefficient of the mask `lone`.
-fn half(odd: u32, lone: usize, dims: u8, d: u8, a: &[f64], out: &mut [f64])
-    requires { (odd ≤ 1) × (dims ≤ 9) × (d ≤ 9) × (length a.now ≡ 2 ^ dims) × (2 ^ (d - 1) ≤ length out.old) }
-    ensures { out.new ≡ laid (map (coef dims a.now) (half_masks odd lone d)) out.old }
+// The blades of one parity at d dimensions; where d is 0, the coefficient of the mask `lone`.
+fn half(parity: Parity, lone: usize, dims: u8, d: u8, a: &[f64], out: &mut [f64])
+    requires { (dims ≤ 9) × (d ≤ 9) × (length a.now ≡ 2 ^ dims) × (2 ^ (d - 1) ≤ length out.old) }
+    ensures { out.new ≡ laid (map (coef dims a.now) (half_masks (odd_of parity) lone d)) out.old }
 {
     if d == 0 {
         out[0] = coefficient(dims, a, lone);
         return;
     }
     if d == dims {
-        take_half(odd, d, a, out);
+        take_half(parity, d, a, out);
         return;
     }
     let mut held = [0.0; 512];
     read_all(dims, d, a, &mut held);
     let count = blades(d);
-    take_half(odd, d, &held[..count], out);
+    take_half(parity, d, &held[..count], out);
 }
 
 // The even or odd blades of a value, with refusals.
-fn unpack_half(odd: u32, lone: usize, dims: u8, d: u8, a: &[f64], out: &mut [f64]) -> Count
-    requires { odd ≤ 1 }
-    ensures { Writes (half_of odd lone dims d a.now (length out.old)) result out.old out.new }
+fn unpack_half(
+    parity: Parity,
+    lone: usize,
+    dims: u8,
+    d: u8,
+    a: &[f64],
+    out: &mut [f64],
+) -> Result<usize, Refusal>
+    ensures { Writes (half_of (odd_of parity) lone dims d a.now (length out.old)) result out.old out.new }
 {
     let needed = half_count(d);
-    let no = refusal_of(dims, d, a.len(), out.len(), needed);
-    if no != DONE {
-        return none(no);
-    }
-    half(odd, lone, dims, d, a, out);
-    Count {
-        number: DONE,
-        count: needed,
-    }
+    refusal_of(dims, d, a.len(), out.len(), needed)?;
+    half(parity, lone, dims, d, a, out);
+    Ok(needed)
 }
 
 impl Shape {
     // All blades at d dimensions.
-    pub fn unpack_all(self, d: u8, a: &[f64], out: &mut [f64]) -> Count
+    pub fn unpack_all(self, d: u8, a: &[f64], out: &mut [f64]) -> Result<usize, Refusal>
         ensures { Writes (unpack_all self d a.now (length out.old)) result out.old out.new }
     {
         let dims = self.dims;
         let needed = blades_or_none(d);
-        let no = refusal_of(dims, d, a.len(), out.len(), needed);
-        if no != DONE {
-            return none(no);
-        }
+        refusal_of(dims, d, a.len(), out.len(), needed)?;
         read_all(dims, d, a, out);
-        Count {
-            number: DONE,
-            count: needed,
-        }
+        Ok(needed)
     }
 
     // The even blades at d dimensions.
-    pub fn unpack_even(self, d: u8, a: &[f64], out: &mut [f64]) -> Count
+    pub fn unpack_even(self, d: u8, a: &[f64], out: &mut [f64]) -> Result<usize, Refusal>
         ensures { Writes (unpack_half 0 self d a.now (length out.old)) result out.old out.new }
     {
-        unpack_half(0, 0, self.dims, d, a, out)
+        unpack_half(Parity::Even, 0, self.dims, d, a, out)
     }
 
     // The odd blades at d dimensions.
-    pub fn unpack_odd(self, d: u8, a: &[f64], out: &mut [f64]) -> Count
+    pub fn unpack_odd(self, d: u8, a: &[f64], out: &mut [f64]) -> Result<usize, Refusal>
         ensures { Writes (unpack_half 1 self d a.now (length out.old)) result out.old out.new }
     {
-        unpack_half(1, 0, self.dims, d, a, out)
+        unpack_half(Parity::Odd, 0, self.dims, d, a, out)
     }
 
     // The even blades at its own dimensions.
-    pub fn unpack_own_even(self, a: &[f64], out: &mut [f64]) -> Count
+    pub fn unpack_own_even(self, a: &[f64], out: &mut [f64]) -> Result<usize, Refusal>
         ensures { Writes (unpack_own_half 0 self a.now (length out.old)) result out.old out.new }
     {
-        unpack_half(0, 0, self.dims, self.dims, a, out)
+        unpack_half(Parity::Even, 0, self.dims, self.dims, a, out)
     }
 
     // The odd blades at its own dimensions.
-    pub fn unpack_own_odd(self, a: &[f64], out: &mut [f64]) -> Count
+    pub fn unpack_own_odd(self, a: &[f64], out: &mut [f64]) -> Result<usize, Refusal>
         ensures { Writes (unpack_own_half 1 self a.now (length out.old)) result out.old out.new }
     {
-        unpack_half(1, 1, self.dims, self.dims, a, out)
+        unpack_half(Parity::Odd, 1, self.dims, self.dims, a, out)
     }
 
     // The vector at its own dimensions.
-    pub fn unpack_vector(self, a: &[f64], out: &mut [f64]) -> Count
+    pub fn unpack_vector(self, a: &[f64], out: &mut [f64]) -> Result<usize, Refusal>
         ensures { Writes (unpack_vector self a.now (length out.old)) result out.old out.new }
     {
         let dims = self.dims;
         let needed = dims as usize;
-        let no = refusal_of(dims, dims, a.len(), out.len(), needed);
-        if no != DONE {
-            return none(no);
-        }
+        refusal_of(dims, dims, a.len(), out.len(), needed)?;
         copy_part(a, 1, needed, out, 0);
-        Count {
-            number: DONE,
-            count: needed,
-        }
+        Ok(needed)
     }
 }

@@ -18,13 +18,13 @@ fn next_backwards(dims: u8, x: u32) -> u32
     ensures { result ≡ next_backwards dims x }
 {
     let y = x + 1;
-    let ending = u32::trailing_zeros(y);
+    let ending = y.trailing_zeros();
     let others = x & y;
     if others == 0 {
         let first = bit(dims as u32);
         return first - (first >> (ending + 1));
     }
-    others - (bit(u32::trailing_zeros(others)) >> (ending + 1))
+    others - (bit(others.trailing_zeros()) >> (ending + 1))
 }
 
 // A value at the more dimensions n: its numbers in turn where a mask is its own, +0 elsewhere.
@@ -37,8 +37,7 @@ pub(crate) fn grow(dims: u8, n: u8, a: &[f64], out: &mut [f64])
     let mut x: u32 = 0;
     let mut i: usize = 0;
     let mut end = blades(dims);
-    let mut k: usize = 0;
-    while 2 * k < last {
+    for k in 0..blades(n) / 2 {
         if x % low == 0 {
             out[k] = a[i];
             i += 1;
@@ -53,7 +52,6 @@ pub(crate) fn grow(dims: u8, n: u8, a: &[f64], out: &mut [f64])
             out[back] = 0.0;
         }
         x = next_backwards(n, x);
-        k += 1;
     }
 }
 
@@ -67,8 +65,7 @@ pub(crate) fn shrink(n: u8, dims: u8, a: &[f64], out: &mut [f64])
     let mut x: u32 = 0;
     let mut at: usize = 0;
     let mut end = blades(dims);
-    let mut k: usize = 0;
-    while 2 * k < last {
+    for k in 0..blades(n) / 2 {
         if x % low == 0 {
             out[at] = a[k];
             at += 1;
@@ -79,6 +76,5 @@ pub(crate) fn shrink(n: u8, dims: u8, a: &[f64], out: &mut [f64])
             out[end] = a[back];
         }
         x = next_backwards(n, x);
-        k += 1;
     }
 }

@@ -146,6 +146,8 @@ module _ (given : List ℕ) (d : ℕ) (mode : Mode) (flavor : Flavor) (f : Forma
   pub by_enough : 2 ^ d ≤ length given → product_by (low_mask given d) d mode flavor f a b ≡ product_by (given_mask given d) d mode flavor f a b
   by_enough h = mask_equal (low_mask given d) (given_mask given d) d (λ i l. given_enough given d i h) mode flavor f a b
 
-  pub by_few : (before : List ℕ) → length given < 2 ^ d → product_by (low_mask (laid (order d) before) d) d mode flavor f a b ≡ product_by (given_mask given d) d mode flavor f a b
-  by_few before h =
-      mask_equal (low_mask (laid (order d) before) d) (given_mask given d) d (λ i l. order_given_lem d before i l ∙ given_few given d i h) mode flavor f a b
+  pub by_few : length given < 2 ^ d → product_by (mask_at d) d mode flavor f a b ≡ product_by (given_mask given d) d mode flavor f a b
+  by_few h = mask_equal (mask_at d) (given_mask given d) d (λ i l. given_few given d i h) mode flavor f a b
+
+  pub by_laid : product_by (low_mask (laid (order d) given) d) d mode flavor f a b ≡ product_by (mask_at d) d mode flavor f a b
+  by_laid = mask_equal (low_mask (laid (order d) given) d) (mask_at d) d (λ i l. order_given_lem d given i l) mode flavor f a b

@@ -1,11 +1,11 @@
 -- Lists that have g k at place k, and outputs that are laid over each other. Assumes nothing.
 use mathlib.Core.Path.{◌≡◌, refl, sym, ap, ap₂, ◌∙◌}
-use mathlib.Core.List.{List, [], ◌∷◌, ◌++◌, map}
+use mathlib.Core.List.{List, [], ◌∷◌, ◌++◌, map, append-nil}
 use Prim.Native.Nat.{ℕ, zero, suc, ◌+◌, ◌≤◌, ◌<◌, suc-le-suc}
 use native.Mathlib.Nat.{zero-add, add-zero, add-suc, suc-add, suc_inj, suc-ne-zero, zero-lt-suc}
 use native.Mathlib.Omega.{arith}
 use lib.Ieee.{Float, nan}
-use lib.ListN.{length, get_or, take, drop, length-map, length-take, get_or-append}
+use lib.ListN.{length, get_or, take, drop, length-map, length-take, drop_of_length-le, get_or-append}
 use lib.Seq.{drop-append_seam, get_or-drop}
 use Rattle.masks.specs.Order.{up_from}
 use Rattle.masks.specs.Outcome.{laid}
@@ -50,3 +50,9 @@ laid_at xs out k h = get_or-append xs (drop (length xs) out) nan k h
 -- What is laid over as many numbers hides them.
 pub laid_over : (xs ys out : List Float) → length xs ≡ length ys → laid xs (laid ys out) ≡ laid xs out
 laid_over xs ys out e = ap (λ (l : List Float). xs ++ l) (ap (λ (n : ℕ). drop n (laid ys out)) e ∙ drop-append_seam ys (drop (length ys) out) ∙ ap (λ (n : ℕ). drop n out) (sym e))
+
+-- What is laid over a part, with what stands past that, is laid over the whole.
+pub laid_part : (n : ℕ) (xs out : List Float) → length xs ≡ n → laid xs (take n out) ++ drop n out ≡ laid xs out
+laid_part n xs out e =
+    let past : drop (length xs) (take n out) ≡ [] = drop_of_length-le (take n out) (omega (arith, e, length-take n out)) in
+    rw (past, append-nil) (ap (λ (m : ℕ). xs ++ drop m out) (sym e))

@@ -6,6 +6,8 @@ use native.Mathlib.Omega.{arith}
 use lib.Ieee.{Float, binary64}
 use lib.ListN.{length}
 use lib.Pow.{pow_pos}
+use Rattle.std.specs.Prelude.{Result}
+use Rattle.masks.specs.declared.outcome.Refusal.{Refusal}
 use Rattle.masks.specs.declared.shape.Shape.{Shape}
 use Rattle.masks.specs.Order.{order}
 use Rattle.masks.specs.Outcome.{laid, refusal, value}
@@ -64,7 +66,7 @@ module _ (mode : Mode) (s t : Shape) (a b : List Float) (room : ℕ) where
 
 -- ---- what a call gives
 
-module _ (mode : Mode) (s t : Shape) (a b : List Float) (room : ℕ) (r : Product) (before after : List Float) where
+module _ (mode : Mode) (s t : Shape) (a b : List Float) (room : ℕ) (r : Result Product Refusal) (before after : List Float) where
   pub gives_made : (given : List ℕ) → GivesProduct (made (multiplied_by_of given mode) s t a b room) r before after → GivesProduct (multiplied_by given mode s t a b room) r before after
   gives_made given g = subst (λ (o : Counted). GivesProduct o r before after) (sym (multiplied_by_made mode s t a b room given)) g
 

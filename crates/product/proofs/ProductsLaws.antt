@@ -10,20 +10,22 @@ use lib.Ieee.Bits.{is_true}
 use lib.Ieee.{Float}
 use lib.ListN.{length, take}
 use borrow.Author.Tests.{eqb-true}
+use Rattle.std.specs.Prelude.{Result, Ok, Err}
 use Rattle.masks.specs.declared.flavor.Flavor.{Flavor}
 use Rattle.masks.specs.declared.flavor.Flavor.TheVariants.{Vanilla, Projective, Cl}
 use Rattle.masks.specs.declared.shape.Shape.{Shape}
-use Rattle.masks.specs.declared.outcome.Answers.{Answers}
-use Rattle.masks.specs.Outcome.{Pair, GivesBoth, laid, refusal, unless, pair_tests}
+use Rattle.masks.specs.declared.outcome.Refusal.{Refusal}
+use Rattle.masks.specs.declared.outcome.Refusal.TheVariants.{NoRoom}
+use Rattle.masks.specs.Outcome.{Pair, GivesBoth, laid, refusal, number_of, unless, pair_tests}
 use Rattle.masks.specs.Shape.{promotes, resized, conformed, conformed_shape, conform, meeting_dims}
 use Rattle.masks.proofs.ListLaws.{take_laid, both}
-use Rattle.masks.proofs.OutcomeLaws.{unless_done, Passed, passed}
+use Rattle.masks.proofs.OutcomeLaws.{refuses, unless_done, Passed, passed}
 use Rattle.masks.proofs.ShapeLaws.{resized_same, resized_length, paired, conformed_none}
 use Rattle.product.proofs.ProductsRefusals.{Wide, Of, made, gives_refusal, pair_accepted, up, up_right, conform_tests, pair, conform_number, conform_done, conform_product, refused_anyway, refused_for_room, roomy_enough, made_refused}
 use Rattle.product.specs.declared.outcome.Product.{Product}
 use Rattle.product.specs.declared.mode.Mode.{Mode}
 use Rattle.product.specs.Pairwise.{pairs_of}
-use Rattle.product.specs.Products.{Counted, GivesProduct, product_of, refused_product, multiplied_of, product_tests, multiplied}
+use Rattle.product.specs.Products.{Counted, GivesProduct, refused_product, multiplied_of, product_tests, multiplied}
 use Rattle.product.specs.Accuracy.{Fitting}
 
 -- ---- conforming first
@@ -113,50 +115,45 @@ pub agreeing : (s t : Shape) → (eqb s.dims t.dims && shares_flavor s.flavor t.
 agreeing s t e = let b = both (eqb s.dims t.dims) (shares_flavor s.flavor t.flavor) (subst T (sym e) tt) in record { same = eqb→eq s.dims t.dims b.0; shared = is_true _ b.1 }
 
 module _ (of : Of) (s t : Shape) (a b : List Float) (room : ℕ) (g : Agreeing s t) where
-  pub gives_agreeing_refused : (n : ℕ) (r : Product) (out : List Float) → n ≡ refusal (pair_tests s.dims t.dims s.dims (length a) (length b) room) → (n ≡ 0 → ⊥)
-      → r ≡ product_of (refused_product n) → GivesProduct (made of s t a b room) r out out
-  gives_agreeing_refused n r out e h q =
-      gives_refusal _ n r out (made_refused of s t a b room n (e ∙ sym (agreeing_tests s t a b g.same g.shared room)) h) q
+  pub gives_agreeing_refused : (e : Refusal) (out : List Float) → refusal (pair_tests s.dims t.dims s.dims (length a) (length b) room) ≡ number_of e → GivesProduct (made of s t a b room) (Err e) out out
+  gives_agreeing_refused e out h =
+      gives_refusal _ e out (made_refused of s t a b room (number_of e) (sym h ∙ sym (agreeing_tests s t a b g.same g.shared room)) (refuses e))
 
-  pub gives_agreeing : (r : Product) (before after : List Float) → refusal (pair_tests s.dims t.dims s.dims (length a) (length b) room) ≡ 0
+  pub gives_agreeing : (r : Result Product Refusal) (before after : List Float) → refusal (pair_tests s.dims t.dims s.dims (length a) (length b) room) ≡ 0
       → GivesProduct (of s a b) r before after → GivesProduct (made of s t a b room) r before after
   gives_agreeing r before after z q = rw (made_agreeing s t a b g.same g.shared of room z) q
 
 -- ---- values that are conformed first, to arrays of w numbers
 
-module _ (s t : Shape) (a b : List Float) (r : Answers) (bx ax by ay : List Float) (w : ℕ) (wide : Wide (meeting_dims s t) w)
-    (g : GivesBoth (conform s t a b w w) r bx ax by ay) where
-  numbered : r.number ≡ refusal (conform_tests s t a b w w)
-  numbered = ap (λ (q : Answers). q.number) g.answered ∙ conform_number s t a b w w
-
+module _ (s t : Shape) (a b bx ax by ay : List Float) (w : ℕ) (wide : Wide (meeting_dims s t) w) where
   -- What conforming refuses, the product refuses.
-  pub gives_unconformed : (of : Of) (room : ℕ) (p : Product) (out : List Float) → (r.number ≡ 0 → ⊥) → p ≡ product_of (refused_product r.number)
-      → GivesProduct (made of s t a b room) p out out
-  gives_unconformed of room p out h q =
-      gives_refusal _ r.number p out (made_refused of s t a b room r.number (sym (refused_anyway s t a b w wide room r.number h (sym numbered))) h) q
+  pub gives_unconformed : (e : Refusal) → GivesBoth (conform s t a b w w) (Err e) bx ax by ay → (of : Of) (room : ℕ) (out : List Float) → GivesProduct (made of s t a b room) (Err e) out out
+  gives_unconformed e g of room out =
+      let numbered : refusal (conform_tests s t a b w w) ≡ number_of e = sym (conform_number s t a b w w) ∙ g.answered in
+      gives_refusal _ e out (made_refused of s t a b room (number_of e) (sym (refused_anyway s t a b w wide room (number_of e) (refuses e) numbered)) (refuses e))
 
-  module _ (z : r.number ≡ 0) where
+  module _ (r : Shape × Shape) (g : GivesBoth (conform s t a b w w) (Ok r) bx ax by ay) where
     done : refusal (conform_tests s t a b w w) ≡ 0
-    done = sym numbered ∙ z
+    done = sym (conform_number s t a b w w) ∙ g.answered.0
 
     is_pair : conform s t a b w w ≡ pair s t a b
     is_pair = conform_done s t a b w w done
 
-    is_left : r.left ≡ (pair s t a b).left_shape
-    is_left = ap (λ (q : Answers). q.left) g.answered ∙ ap (λ (p : Pair). p.left_shape) is_pair
+    is_left : r.0 ≡ (pair s t a b).left_shape
+    is_left = ap (λ (q : Shape × Shape). q.0) g.answered.1 ∙ ap (λ (p : Pair). p.left_shape) is_pair
 
-    is_meeting : r.left.dims ≡ meeting_dims s t
+    is_meeting : r.0.dims ≡ meeting_dims s t
     unfolding conformed_shape
     is_meeting = ap (λ (u : Shape). u.dims) is_left
 
-    pub conformed_small : r.left.dims ≤ 9
+    pub conformed_small : r.0.dims ≤ 9
     conformed_small = omega (arith, is_meeting, (paired s.dims t.dims (meeting_dims s t) (length a) (length b) w w done).result)
 
     -- The conformed values fit the arrays.
-    pub conformed_fits : 2 ^ r.left.dims ≤ w
+    pub conformed_fits : 2 ^ r.0.dims ≤ w
     conformed_fits = let h : meeting_dims s t ≤ 9 = omega (arith, is_meeting, conformed_small) in subst (λ (m : ℕ). 2 ^ m ≤ w) (sym is_meeting) (wide h)
 
-    module _ (n : ℕ) (e : n ≡ 2 ^ r.left.dims) where
+    module _ (n : ℕ) (e : n ≡ 2 ^ r.0.dims) where
       part_of : (up d : ℕ) (xs before after : List Float) → after ≡ laid (conformed up d (meeting_dims s t) xs) before → take n after ≡ conformed up d (meeting_dims s t) xs
       unfolding conformed
       part_of up d xs before after q =
@@ -170,13 +167,13 @@ module _ (s t : Shape) (a b : List Float) (r : Answers) (bx ax by ay : List Floa
       right_part = part_of (up_right s t a b) t.dims b by ay (g.right ∙ ap (λ (p : Pair). laid p.right_coefs by) is_pair)
 
       -- Too little room is refusal 3.
-      pub gives_no_room : (of : Of) (room : ℕ) (p : Product) (out : List Float) → room < n → p ≡ product_of (refused_product 3) → GivesProduct (made of s t a b room) p out out
-      gives_no_room of room p out h q =
+      pub gives_no_room : (of : Of) (room : ℕ) (out : List Float) → room < n → GivesProduct (made of s t a b room) (Err NoRoom) out out
+      gives_no_room of room out h =
           let l : room < 2 ^ meeting_dims s t = subst (λ (m : ℕ). room < m) (e ∙ ap (λ (m : ℕ). 2 ^ m) is_meeting) h in
-          gives_refusal _ 3 p out (made_refused of s t a b room 3 (sym (refused_for_room s t a b w wide room done l)) (λ q. omega arith)) q
+          gives_refusal _ NoRoom out (made_refused of s t a b room 3 (sym (refused_for_room s t a b w wide room done l)) (λ q. omega arith))
 
-      pub gives_conformed : (of : Of) (room : ℕ) (p : Product) (before after : List Float) → n ≤ room
-          → GivesProduct (of r.left (take n ax) (take n ay)) p before after → GivesProduct (made of s t a b room) p before after
+      pub gives_conformed : (of : Of) (room : ℕ) (p : Result Product Refusal) (before after : List Float) → n ≤ room
+          → GivesProduct (of r.0 (take n ax) (take n ay)) p before after → GivesProduct (made of s t a b room) p before after
       gives_conformed of room p before after h q =
           let l : 2 ^ meeting_dims s t ≤ room = subst (λ (m : ℕ). m ≤ room) (e ∙ ap (λ (m : ℕ). 2 ^ m) is_meeting) h in
           subst (λ (o : Counted). GivesProduct o p before after)

@@ -6,25 +6,27 @@ use Prim.Native.Nat.{ℕ, zero, suc, ◌^◌, ◌≤◌, ◌<◌}
 use lib.Ieee.{Float}
 use lib.ListN.{length}
 use borrow.Author.Tests.{eq-eqb, le-ltb, lt-ltb, ltb-false}
+use Rattle.std.specs.Prelude.{Result, Err}
 use Rattle.masks.specs.declared.flavor.Flavor.TheVariants.{Vanilla}
+use Rattle.masks.specs.declared.outcome.Refusal.{Refusal}
 use Rattle.masks.specs.declared.shape.Shape.{Shape}
-use Rattle.masks.specs.Outcome.{Test, Pair, refusal, too_many, wrong_count, no_room, unless, shape_of, refused_pair, pair_tests}
+use Rattle.masks.specs.Outcome.{Test, Pair, refusal, too_many, wrong_count, no_room, number_of, unless, shape_of, refused_pair, pair_tests}
 use Rattle.masks.specs.Shape.{promotes, conformed, conformed_shape, conform, both_tests, meeting_dims}
 use Rattle.masks.proofs.ShapeLaws.{paired, second_room}
-use Rattle.masks.proofs.OutcomeLaws.{unless_refused, unless_done, refused_first, refused_later, Passed, passed}
+use Rattle.masks.proofs.OutcomeLaws.{answer_one, unless_refused, unless_done, refused_first, refused_later, Passed, passed}
 use Rattle.product.specs.declared.outcome.Product.{Product}
 use Rattle.product.specs.declared.mode.Mode.{Mode}
 use Rattle.product.specs.Products.{Counted, GivesProduct, product_of, refused_product, multiplied_of, product_tests, multiplied}
 
 -- ---- the contract
 
--- A refusal gives its number and leaves the output.
-pub gives_refusal : (o : Counted) (n : ℕ) (r : Product) (out : List Float) → o ≡ refused_product n → r ≡ product_of (refused_product n) → GivesProduct o r out out
-gives_refusal o n r out e q = rw e (record { answered = q; left = refl })
+-- A refusal is answered and leaves the output.
+pub gives_refusal : (o : Counted) (e : Refusal) (out : List Float) → o ≡ refused_product (number_of e) → GivesProduct o (Err e) out out
+gives_refusal o e out h = rw h (record { answered = refl; left = refl })
 
 -- Nothing is left open: a product and what the output held determine the answer and what it holds after.
-pub gives_product_one : {o : Counted} {r r' : Product} {before after after' : List Float} → GivesProduct o r before after → GivesProduct o r' before after' → (r ≡ r') × (after ≡ after')
-gives_product_one g h = (g.answered ∙ sym h.answered, g.left ∙ sym h.left)
+pub gives_product_one : {o : Counted} {r r' : Result Product Refusal} {before after after' : List Float} → GivesProduct o r before after → GivesProduct o r' before after' → (r ≡ r') × (after ≡ after')
+gives_product_one {o = o} g h = (answer_one o.outcome.number (product_of o) _ _ g.answered h.answered, g.left ∙ sym h.left)
 
 -- ---- the tests of two values
 
@@ -64,14 +66,14 @@ module _ (s t : Shape) (a b : List Float) where
         right_coefs = conformed up_right t.dims (meeting_dims s t) b;
       }
 
-  number_of : (k : ℕ) → (unless refused_pair k pair).number ≡ k
+  number_is : (k : ℕ) → (unless refused_pair k pair).number ≡ k
   unfolding unless
-  number_of zero = refl
-  number_of (suc k) = refl
+  number_is zero = refl
+  number_is (suc k) = refl
 
   pub conform_number : (room roomRight : ℕ) → (conform s t a b room roomRight).number ≡ refusal (conform_tests room roomRight)
   unfolding conform
-  conform_number room roomRight = number_of (refusal (conform_tests room roomRight))
+  conform_number room roomRight = number_is (refusal (conform_tests room roomRight))
 
   -- What conforming gives where it is not refused.
   pub conform_done : (room roomRight : ℕ) → refusal (conform_tests room roomRight) ≡ 0 → conform s t a b room roomRight ≡ pair

@@ -3,14 +3,15 @@ use mathlib.Core.Path.{◌≡◌, refl, sym, ap, ◌∙◌}
 use mathlib.Core.Bool.{Bool, true, false, cond}
 use mathlib.Core.List.{List, ◌∷◌, map}
 use mathlib.Core.Logic.{◌≢◌}
-use Prim.Native.Nat.{ℕ, zero, suc, ◌+◌, ◌<◌, ◌≤◌}
-use native.Mathlib.Nat.{not-suc-le-zero, le_of_suc-le-suc}
+use Prim.Native.Nat.{ℕ, zero, suc, ◌+◌, ◌^◌, ◌<◌, ◌≤◌}
+use native.Mathlib.Nat.{mod-lt, not-suc-le-zero, le_of_suc-le-suc}
 use native.Mathlib.Numerals.{add-one}
 use native.Mathlib.Omega.{arith}
 use lib.Bits.{bit_and, and_comm}
 use lib.Dec.{eqb, ltb}
 use lib.Ieee.{Float, nan, neg}
 use lib.ListN.{length, get_or, set, take, replicate, length-map, length-set, length-replicate}
+use lib.Pow.{pow_pos}
 use lib.Seq.{get_or-set_same, get_or-set_other}
 use borrow.Author.Tests.{eqb-true, eqb-false}
 use Rattle.masks.specs.Order.{up_from}
@@ -18,6 +19,8 @@ use Rattle.masks.specs.Outcome.{nought}
 use Rattle.masks.proofs.OrderLaws.{up_length}
 use Rattle.product.specs.declared.mode.Mode.{Mode}
 use Rattle.product.specs.declared.metric.Squares.{Squares}
+use Rattle.product.specs.declared.plan.Plan.{Plan}
+use Rattle.product.specs.inner.Plan.{plan_mask}
 use Rattle.product.specs.declared.metric.Blade.{Blade}
 use Rattle.product.specs.Given.{at_mask}
 use Rattle.product.specs.inner.Metric.{blade_of}
@@ -108,3 +111,9 @@ pub turned_sums : (n : ℕ) (μ : ℕ → ℕ) (mode : Mode) (b : List Float) (b
     → turn ≡ turn' → s ≡ s' → laid_out ≡ laid-out' → am ≡ turned_at neg turn laid_out → sums ≡ rows_below n μ turn mode s am b n → after ≡ turned_at back turn sums
     → after ≡ turned_at back turn' (rows_below n μ turn' mode s' (turned_at neg turn' laid-out') b n)
 turned_sums n μ mode b back turn turn' s s' l l' am sums after et es el ea er e = e ∙ rw (er, ea, el, es, et)
+
+-- ---- a plan
+
+-- A place's mask has no bit outside.
+pub plan_low : (p : Plan) (i : ℕ) → plan_mask p i < 2 ^ p.shape.dims
+plan_low p i = mod-lt (get_or p.given.now i 0) (pow_pos p.shape.dims)

@@ -1,8 +1,9 @@
 -- What the five products give. Assumes nothing.
-use Rattle.std.specs.Prelude.{◌≡◌, List, ℕ, Float, length}
+use Rattle.std.specs.Prelude.{◌≡◌, List, ℕ, Float, length, Result}
 use Rattle.std.specs.Float.{binary64}
+use Rattle.masks.specs.declared.outcome.Refusal.{Refusal}
 use Rattle.masks.specs.declared.shape.Shape.{Shape}
-use Rattle.masks.specs.Outcome.{Test, Outcome, refusal, pair_tests, unless, value, refused_value, laid}
+use Rattle.masks.specs.Outcome.{Test, Outcome, refusal, pair_tests, unless, value, refused_value, IsAnswer, laid}
 use Rattle.masks.specs.Shape.{conform, meeting_dims}
 use Rattle.product.specs.declared.mode.Mode.{Mode}
 use Rattle.product.specs.declared.mode.Mode.TheVariants.{All, Left, Right, Inner, Outer}
@@ -52,11 +53,11 @@ inner_product = multiplied Inner
 abbrev pub outer_product : Shape → Shape → List Float → List Float → ℕ → Counted
 outer_product = multiplied Outer
 
--- The answer has the product's number, shape and pairs; the coefficients are in the output.
+-- The answer has the product's shape and pairs; the coefficients are in the output.
 abbrev pub product_of : Counted → Product
-product_of o = record { number = o.outcome.number; shape = o.outcome.shape; pairs = o.pairs }
+product_of o = record { shape = o.outcome.shape; pairs = o.pairs }
 
--- The answer r, and the output's numbers before and after, are those of the product.
-pub record GivesProduct (o : Counted) (r : Product) (before after : List Float) : Type 0 where
-  pub answered : r ≡ product_of o
+-- The answer r has the product's shape and pairs or its refusal, and the output's numbers before and after are those of the product.
+pub record GivesProduct (o : Counted) (r : Result Product Refusal) (before after : List Float) : Type 0 where
+  pub answered : IsAnswer o.outcome.number (product_of o) r
   pub left : after ≡ laid o.outcome.coefs before

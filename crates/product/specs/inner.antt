@@ -2,3 +2,4 @@
 pub mod Pairwise
 pub mod Metric
 pub mod Sums
+pub mod Plan

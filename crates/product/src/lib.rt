@@ -5,6 +5,7 @@ mod metric;
 pub mod mode;
 pub mod outcome;
 mod pairs;
+mod plan;
 pub mod products;
 mod snap;
 mod sums;

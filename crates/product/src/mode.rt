@@ -5,7 +5,7 @@ ghost use Rattle.product.specs.Mode.{flavor_for};
 use masks::flavor::{Flavor, null_flavor};
 
 // Which pairs of blades a product takes: all; a within b; b within a; either; all, under `Flavor::NULL`.
-#[derive(Clone, Copy)]
+#[derive(Clone, Copy, PartialEq, Eq, Debug)]
 pub enum Mode {
     All,
     Left,
@@ -20,10 +20,7 @@ pub(crate) fn flavor_for(mode: Mode, flavor: Flavor) -> Flavor
     ensures { result ≡ flavor_for mode flavor }
 {
     match mode {
-        Mode::All => flavor,
-        Mode::Left => flavor,
-        Mode::Right => flavor,
-        Mode::Inner => flavor,
+        Mode::All | Mode::Left | Mode::Right | Mode::Inner => flavor,
         Mode::Outer => null_flavor(),
     }
 }

@@ -1,5 +1,5 @@
 // The number of contributing pairs, by its closed form.
-ghost use Rattle.std.specs.Prelude.{◌≡◌, not, cond, ◌-◌, ◌*◌, ◌^◌, ◌≤◌};
+ghost use Rattle.std.specs.Prelude.{◌≡◌, not, ◌-◌, ◌*◌, ◌^◌, ◌≤◌};
 ghost use Rattle.clifford.specs.Pairs.{nonzero, nulls};
 ghost use Rattle.masks.specs.Flavor.{metric_of, metric_value};
 ghost use Rattle.product.specs.Pairwise.{pairs_of};
@@ -7,15 +7,11 @@ ghost use Rattle.product.specs.Pairwise.{pairs_of};
 use super::mode::{Mode, flavor_for};
 use masks::flavor::{Flavor, Metric};
 
-// 1 for a metric of 0.
-fn is_null(m: Metric) -> u8
-    ensures { result ≡ cond (not (nonzero (metric_value m))) 1 0 }
+// Whether a metric is 0.
+fn is_null(m: Metric) -> bool
+    ensures { result ≡ not (nonzero (metric_value m)) }
 {
-    match m {
-        Metric::Minus => 0,
-        Metric::Zero => 1,
-        Metric::Plus => 0,
-    }
+    matches!(m, Metric::Zero)
 }
 
 // How many basis vectors below `dims` square to 0.
@@ -23,10 +19,10 @@ fn null_count(flavor: Flavor, dims: u8) -> u8
     ensures { result ≡ nulls (metric_of flavor) dims }
 {
     let mut n: u8 = 0;
-    let mut i: u8 = 0;
-    while i < dims {
-        n += is_null(flavor.metric(i));
-        i += 1;
+    for i in 0..dims {
+        if is_null(flavor.metric(i)) {
+            n += 1;
+        }
     }
     n
 }
@@ -36,13 +32,7 @@ fn power(base: u32, n: u8) -> u32
     requires { (base ≤ 4) × (n ≤ 9) }
     ensures { result ≡ base ^ n }
 {
-    let mut p: u32 = 1;
-    let mut i: u8 = 0;
-    while i < n {
-        p = p * base;
-        i += 1;
-    }
-    p
+    base.pow(n as u32)
 }
 
 // As many choices for each of `dims` basis vectors as `full` says, and for the null ones among them as `null_ones` says.
@@ -60,10 +50,8 @@ pub(crate) fn pair_count(mode: Mode, flavor: Flavor, dims: u8) -> u32
 {
     let null = null_count(flavor_for(mode, flavor), dims);
     match mode {
-        Mode::All => choices(4, 3, dims, null),
-        Mode::Left => choices(3, 2, dims, null),
-        Mode::Right => choices(3, 2, dims, null),
+        Mode::All | Mode::Outer => choices(4, 3, dims, null),
+        Mode::Left | Mode::Right => choices(3, 2, dims, null),
         Mode::Inner => 2 * choices(3, 2, dims, null) - power(2, dims - null),
-        Mode::Outer => choices(4, 3, dims, null),
     }
 }

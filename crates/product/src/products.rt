@@ -1,53 +1,49 @@
 // The five products.
-ghost use Rattle.std.specs.Prelude.{◌≡◌, ◌&&◌, ◌+◌, ◌^◌, ◌≤◌, eqb, length};
+ghost use Rattle.std.specs.Prelude.{◌≡◌, ◌^◌, ◌≤◌, length};
 ghost use Rattle.std.specs.Float.{binary64};
 ghost use Rattle.masks.specs.Outcome.{laid};
-ghost use Rattle.masks.specs.Shape.{promotes, meeting_dims};
+ghost use Rattle.masks.specs.Shape.{meeting_dims};
+ghost use Rattle.product.specs.Pairwise.{mask_at};
 ghost use Rattle.product.specs.Given.{given_mask, product_by, multiplied_by_of, multiplied_by};
 ghost use Rattle.product.specs.Products.{GivesProduct, general_product, left_contraction, right_contraction, inner_product, outer_product};
 
-use super::metric::squares_of;
-use super::mode::{Mode, flavor_for};
-use super::outcome::{Product, refused};
+use super::mode::Mode;
+use super::outcome::Product;
 use super::pairs::pair_count;
+use super::plan::Plan;
 use super::sums::fill_given;
-use masks::flavor::Flavor;
-use masks::order::{blade_count, put_order};
-use masks::outcome::{DONE, NO_ROOM, pair_refusal};
-use masks::shape::{Shape, promotion};
+use masks::order::{blades_or_none, put_order};
+use masks::outcome::{Refusal, pair_refusal};
+use masks::shape::Shape;
 
-// Whether two values conform as they stand.
-fn agree(left: Shape, right: Shape) -> bool
-    ensures { result ≡ (eqb left.dims right.dims && eqb (promotes left.flavor right.flavor + promotes right.flavor left.flavor) 0) }
+// The coefficients of the product of two values of one shape, whose places have the masks of the order, which is built here, in an array that is long
+// enough.
+fn fill_ordered<const N: usize>(mode: Mode, shape: Shape, a: &[f64], b: &[f64], out: &mut [f64])
+    requires a_len { (shape.dims ≤ 9) × (length a.now ≡ 2 ^ shape.dims) × (length b.now ≡ 2 ^ shape.dims) × (2 ^ shape.dims ≤ length out.old) }
+    requires room { (2 ^ shape.dims ≤ N) × (N ≤ 512) }
+    ensures { out.new ≡ laid (product_by (mask_at shape.dims) shape.dims mode shape.flavor binary64 a.now b.now) out.old }
 {
-    let own = left.flavor;
-    let theirs = right.flavor;
-    left.dims == right.dims && promotion(own, theirs) + promotion(theirs, own) == 0
+    let mut order = [0; N];
+    put_order(shape.dims, &mut order).unwrap();
+    let given = &order;
+    fill_given(Plan { shape, mode, given }, a, b, out);
 }
 
-// The coefficients of the product of two values of one dimension, whose places have the given masks, or where these are too few those of the order,
-// which is built here, once.
-fn fill(given: &[u16], mode: Mode, flavor: Flavor, dims: u8, a: &[f64], b: &[f64], out: &mut [f64])
-    requires { (dims ≤ 9) × (length a.now ≡ 2 ^ dims) × (length b.now ≡ 2 ^ dims) × (2 ^ dims ≤ length out.old) }
-    ensures { out.new ≡ laid (product_by (given_mask given.now dims) dims mode flavor binary64 a.now b.now) out.old }
+// The coefficients of the product of two values of one shape, whose places have the given masks, or where these are too few those of the order.
+fn fill(given: &[u16], mode: Mode, shape: Shape, a: &[f64], b: &[f64], out: &mut [f64])
+    requires { (shape.dims ≤ 9) × (length a.now ≡ 2 ^ shape.dims) × (length b.now ≡ 2 ^ shape.dims) × (2 ^ shape.dims ≤ length out.old) }
+    ensures { out.new ≡ laid (product_by (given_mask given.now shape.dims) shape.dims mode shape.flavor binary64 a.now b.now) out.old }
 {
-    let s = squares_of(flavor_for(mode, flavor));
     if a.len() <= given.len() {
-        fill_given(dims, given, mode, s, a, b, out);
-        return;
+        fill_given(Plan { shape, mode, given }, a, b, out);
+    } else if shape.dims <= 6 {
+        fill_ordered::<64>(mode, shape, a, b, out);
+    } else {
+        fill_ordered::<512>(mode, shape, a, b, out);
     }
-    if dims <= 6 {
-        let mut order = [0; 64];
-        put_order(dims, &mut order);
-        fill_given(dims, &order, mode, s, a, b, out);
-        return;
-    }
-    let mut order = [0; 512];
-    put_order(dims, &mut order);
-    fill_given(dims, &order, mode, s, a, b, out);
 }
 
-// The product of two values of one shape's dimensions.
+// The product of two values of one shape's dimensions, which is not refused.
 fn multiply_same(
     given: &[u16],
     mode: Mode,
@@ -57,42 +53,36 @@ fn multiply_same(
     out: &mut [f64],
 ) -> Product
     requires { (shape.dims ≤ 9) × (length a.now ≡ 2 ^ shape.dims) × (length b.now ≡ 2 ^ shape.dims) × (2 ^ shape.dims ≤ length out.old) }
-    ensures { GivesProduct (multiplied_by_of given.now mode shape a.now b.now) result out.old out.new }
+    ensures { GivesProduct (multiplied_by_of given.now mode shape a.now b.now) (Ok result) out.old out.new }
 {
-    let flavor = shape.flavor;
-    fill(given, mode, flavor, shape.dims, a, b, out);
+    fill(given, mode, shape, a, b, out);
     Product {
-        number: DONE,
         shape,
-        pairs: pair_count(mode, flavor, shape.dims),
+        pairs: pair_count(mode, shape.flavor, shape.dims),
     }
 }
 
-// The product of two values that are conformed first, to arrays that are lent and have room.
-fn multiply_in(
+// The product of two values that are conformed first, to arrays that have room.
+fn multiply_in<const N: usize>(
     given: &[u16],
     mode: Mode,
     left: Shape,
     right: Shape,
     a: &[f64],
     b: &[f64],
-    x: &mut [f64],
-    y: &mut [f64],
     out: &mut [f64],
-) -> Product
-    requires { (length x.old ≡ length y.old) × (meeting_dims left right ≤ 9 → 2 ^ meeting_dims left right ≤ length x.old) }
+) -> Result<Product, Refusal>
+    requires { (meeting_dims left right ≤ 9 → 2 ^ meeting_dims left right ≤ N) × (N ≤ 512) }
     ensures { GivesProduct (multiplied_by given.now mode left right a.now b.now (length out.old)) result out.old out.new }
 {
-    let c = left.conform(right, a, b, x, y);
-    if c.number != DONE {
-        return refused(c.number);
-    }
-    let shape = c.left;
-    let n = blade_count(shape.dims).count;
+    let mut x = [0.0; N];
+    let mut y = [0.0; N];
+    let (shape, _) = left.conform(right, a, b, &mut x, &mut y)?;
+    let n = blades_or_none(shape.dims);
     if out.len() < n {
-        return refused(NO_ROOM);
+        return Err(Refusal::NoRoom);
     }
-    multiply_same(given, mode, shape, &x[0..n], &y[0..n], out)
+    Ok(multiply_same(given, mode, shape, &x[..n], &y[..n], out))
 }
 
 // The product of two values that are conformed first, to arrays as long as their dimensions want.
@@ -104,17 +94,14 @@ fn multiply_conformed(
     a: &[f64],
     b: &[f64],
     out: &mut [f64],
-) -> Product
+) -> Result<Product, Refusal>
     ensures { GivesProduct (multiplied_by given.now mode left right a.now b.now (length out.old)) result out.old out.new }
 {
     if left.dims < 6 && right.dims < 6 {
-        let mut x = [0.0; 64];
-        let mut y = [0.0; 64];
-        return multiply_in(given, mode, left, right, a, b, &mut x, &mut y, out);
+        multiply_in::<64>(given, mode, left, right, a, b, out)
+    } else {
+        multiply_in::<512>(given, mode, left, right, a, b, out)
     }
-    let mut x = [0.0; 512];
-    let mut y = [0.0; 512];
-    multiply_in(given, mode, left, right, a, b, &mut x, &mut y, out)
 }
 
 // A product of two values whose places have the given masks, or where these are fewer than the result's places those of the order: as they stand where
@@ -127,40 +114,47 @@ pub fn multiply(
     a: &[f64],
     b: &[f64],
     out: &mut [f64],
-) -> Product
+) -> Result<Product, Refusal>
     ensures { GivesProduct (multiplied_by given.now mode left right a.now b.now (length out.old)) result out.old out.new }
 {
-    if !agree(left, right) {
+    if !left.agrees(right) {
         return multiply_conformed(given, mode, left, right, a, b, out);
     }
-    let no = pair_refusal(
+    pair_refusal(
         left.dims,
         right.dims,
         left.dims,
         a.len(),
         b.len(),
         out.len(),
-    );
-    if no != DONE {
-        return refused(no);
-    }
-    multiply_same(given, mode, left, a, b, out)
+    )?;
+    Ok(multiply_same(given, mode, left, a, b, out))
 }
 
 // The general product.
-pub fn general_product(left: Shape, right: Shape, a: &[f64], b: &[f64], out: &mut [f64]) -> Product
+pub fn general_product(
+    left: Shape,
+    right: Shape,
+    a: &[f64],
+    b: &[f64],
+    out: &mut [f64],
+) -> Result<Product, Refusal>
     ensures { GivesProduct (general_product left right a.now b.now (length out.old)) result out.old out.new }
 {
-    let none: [u16; 0] = [];
-    multiply(&none, Mode::All, left, right, a, b, out)
+    multiply(&[], Mode::All, left, right, a, b, out)
 }
 
 // The left contraction: a within b.
-pub fn left_contraction(left: Shape, right: Shape, a: &[f64], b: &[f64], out: &mut [f64]) -> Product
+pub fn left_contraction(
+    left: Shape,
+    right: Shape,
+    a: &[f64],
+    b: &[f64],
+    out: &mut [f64],
+) -> Result<Product, Refusal>
     ensures { GivesProduct (left_contraction left right a.now b.now (length out.old)) result out.old out.new }
 {
-    let none: [u16; 0] = [];
-    multiply(&none, Mode::Left, left, right, a, b, out)
+    multiply(&[], Mode::Left, left, right, a, b, out)
 }
 
 // The right contraction: b within a.
@@ -170,25 +164,34 @@ pub fn right_contraction(
     a: &[f64],
     b: &[f64],
     out: &mut [f64],
-) -> Product
+) -> Result<Product, Refusal>
     ensures { GivesProduct (right_contraction left right a.now b.now (length out.old)) result out.old out.new }
 {
-    let none: [u16; 0] = [];
-    multiply(&none, Mode::Right, left, right, a, b, out)
+    multiply(&[], Mode::Right, left, right, a, b, out)
 }
 
 // The inner product: either within the other.
-pub fn inner_product(left: Shape, right: Shape, a: &[f64], b: &[f64], out: &mut [f64]) -> Product
+pub fn inner_product(
+    left: Shape,
+    right: Shape,
+    a: &[f64],
+    b: &[f64],
+    out: &mut [f64],
+) -> Result<Product, Refusal>
     ensures { GivesProduct (inner_product left right a.now b.now (length out.old)) result out.old out.new }
 {
-    let none: [u16; 0] = [];
-    multiply(&none, Mode::Inner, left, right, a, b, out)
+    multiply(&[], Mode::Inner, left, right, a, b, out)
 }
 
 // The outer product: all pairs, under `Flavor::NULL`; the left flavor is kept.
-pub fn outer_product(left: Shape, right: Shape, a: &[f64], b: &[f64], out: &mut [f64]) -> Product
+pub fn outer_product(
+    left: Shape,
+    right: Shape,
+    a: &[f64],
+    b: &[f64],
+    out: &mut [f64],
+) -> Result<Product, Refusal>
     ensures { GivesProduct (outer_product left right a.now b.now (length out.old)) result out.old out.new }
 {
-    let none: [u16; 0] = [];
-    multiply(&none, Mode::Outer, left, right, a, b, out)
+    multiply(&[], Mode::Outer, left, right, a, b, out)
 }

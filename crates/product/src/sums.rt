@@ -5,16 +5,15 @@ ghost use Rattle.std.specs.Int.Count.{ones};
 ghost use Rattle.std.specs.Float.{nan, binary64};
 ghost use Rattle.std.specs.Float.Ieee.{add, sub, mul, neg, fits};
 ghost use Rattle.rounding.specs.Snap.{snap};
-ghost use Rattle.masks.specs.declared.flavor.Flavor.{Flavor};
 ghost use Rattle.masks.specs.Order.{up_from};
 ghost use Rattle.masks.specs.Outcome.{laid, nought};
-ghost use Rattle.product.specs.Mode.{flavor_for};
-ghost use Rattle.product.specs.Given.{at_mask, product_by};
-ghost use Rattle.product.specs.inner.Metric.{squares_below};
-ghost use Rattle.product.specs.inner.Sums.{meets, with_pairs, subset_from, beyond, turned_mask, turned_number, turned_at, low_mask, rows_below};
+ghost use Rattle.product.specs.Given.{at_mask};
+ghost use Rattle.product.specs.inner.Sums.{meets, with_pairs, subset_from, beyond, turned_mask, turned_number, turned_at, rows_below};
+ghost use Rattle.product.specs.inner.Plan.{plan_mask, taken_by, planned};
 
-use super::metric::{Blade, Squares, blade_of};
-use super::mode::Mode;
+use super::metric::{Blade, Squares, blade_of, squares_of};
+use super::mode::{Mode, flavor_for};
+use super::plan::{Plan, Sums};
 use super::snap::snap_one;
 
 // Whether the number of ones is odd. Those of a byte are counted in fewer operations, and only nine dimensions need more.
@@ -29,48 +28,43 @@ fn odd_ones(dims: u8, f: u32) -> usize
 }
 
 // One pair: a's number at the mask m times b's number, or times its negative where an odd number of m's vectors flip the sign. `ys` has both.
-fn add_pair(dims: u8, m: u32, blade: Blade, ys: &[f64], am: &[f64], acc: &mut [f64])
-    requires { (dims ≤ 9) × (m < 2 ^ dims) × (m < length am.now) × (bit_xor m blade.mask < length acc.old) × (length ys.now ≡ 2) }
-    ensures { acc.new ≡ set acc.old (bit_xor m blade.mask) (add binary64 (get_or acc.old (bit_xor m blade.mask) nan) (mul binary64 (get_or am.now m nan) (get_or ys.now (ones (bit_and m blade.flips) % 2) nan))) }
+fn add_pair(sums: &mut Sums, m: u32, blade: Blade, ys: &[f64])
+    requires { (m < 2 ^ sums.old.dims) × (blade.mask < 2 ^ sums.old.dims) × (length ys.now ≡ 2) }
+    ensures same_reference { sums.new.acc.ghost_name ≡ sums.old.acc.ghost_name }
+    ensures kept { (sums.new.dims ≡ sums.old.dims) × (sums.new.am ≡ sums.old.am) }
+    ensures added { sums.new.acc.now ≡ set sums.old.acc.now (bit_xor m blade.mask) (add binary64 (get_or sums.old.acc.now (bit_xor m blade.mask) nan) (mul binary64 (get_or sums.old.am.now m nan) (get_or ys.now (ones (bit_and m blade.flips) % 2) nan))) }
 {
     let c = (m ^ blade.mask) as usize;
-    let sign = odd_ones(dims, m & blade.flips);
-    acc[c] = acc[c] + am[m as usize] * ys[sign];
+    let sign = odd_ones(sums.dims, m & blade.flips);
+    sums.acc[c] = sums.acc[c] + sums.am[m as usize] * ys[sign];
 }
 
 // A blade of b with every mask.
-fn add_all(dims: u8, blade: Blade, y: f64, am: &[f64], acc: &mut [f64])
-    requires { (dims ≤ 9) × (blade.mask < 2 ^ dims) × (length am.now ≡ 2 ^ dims) × (length acc.old ≡ 2 ^ dims) }
-    ensures { acc.new ≡ with_pairs (λ m. true) blade y am.now acc.old }
+fn add_all(sums: &mut Sums, blade: Blade, y: f64)
+    requires { blade.mask < 2 ^ sums.old.dims }
+    ensures same_reference { sums.new.acc.ghost_name ≡ sums.old.acc.ghost_name }
+    ensures kept { (sums.new.dims ≡ sums.old.dims) × (sums.new.am ≡ sums.old.am) }
+    ensures added { sums.new.acc.now ≡ with_pairs (λ m. true) blade y sums.old.am.now sums.old.acc.now }
 {
     let ys = [y, -y];
-    let mut m: u32 = 0;
-    while (m as usize) < acc.len() {
-        add_pair(dims, m, blade, &ys, am, acc);
-        m += 1;
+    for m in 0..sums.acc.len() as u32 {
+        add_pair(sums, m, blade, &ys);
     }
 }
 
 // A blade of b with the masks that have `base` and a subset of `free`, which share no bit: the subsets in rising order, from the given one on.
-fn add_subsets(
-    dims: u8,
-    base: u32,
-    free: u32,
-    from: u32,
-    blade: Blade,
-    y: f64,
-    am: &[f64],
-    acc: &mut [f64],
-)
-    requires dims_bound { (dims ≤ 9) × (blade.mask < 2 ^ dims) × (length am.now ≡ 2 ^ dims) × (length acc.old ≡ 2 ^ dims) }
-    requires free_bound { (base + free < 2 ^ dims) × (bit_and base free ≡ 0) × (bit_and from free ≡ from) }
-    ensures { acc.new ≡ with_pairs (subset_from base free from) blade y am.now acc.old }
+fn add_subsets(sums: &mut Sums, base: u32, free: u32, from: u32, blade: Blade, y: f64)
+    requires mask_bound { blade.mask < 2 ^ sums.old.dims }
+    requires free_bound { (base + free < 2 ^ sums.old.dims) × (bit_and base free ≡ 0) × (bit_and from free ≡ from) }
+    ensures same_reference { sums.new.acc.ghost_name ≡ sums.old.acc.ghost_name }
+    ensures kept { (sums.new.dims ≡ sums.old.dims) × (sums.new.am ≡ sums.old.am) }
+    ensures added { sums.new.acc.now ≡ with_pairs (subset_from base free from) blade y sums.old.am.now sums.old.acc.now }
 {
     let ys = [y, -y];
-    let step = acc.len() as u32 - free;
+    let step = sums.acc.len() as u32 - free;
     let mut s = from;
     loop {
-        add_pair(dims, base + s, blade, &ys, am, acc);
+        add_pair(sums, base + s, blade, &ys);
         s = (s + step) & free;
         if s == 0 {
             return;
@@ -79,47 +73,51 @@ fn add_subsets(
 }
 
 // A blade of b with the masks that it is within, but its own.
-fn add_beyond(dims: u8, blade: Blade, y: f64, am: &[f64], acc: &mut [f64])
-    requires { (dims ≤ 9) × (blade.mask < 2 ^ dims) × (length am.now ≡ 2 ^ dims) × (length acc.old ≡ 2 ^ dims) }
-    ensures { acc.new ≡ with_pairs (beyond blade.mask) blade y am.now acc.old }
+fn add_beyond(sums: &mut Sums, blade: Blade, y: f64)
+    requires { blade.mask < 2 ^ sums.old.dims }
+    ensures same_reference { sums.new.acc.ghost_name ≡ sums.old.acc.ghost_name }
+    ensures kept { (sums.new.dims ≡ sums.old.dims) × (sums.new.am ≡ sums.old.am) }
+    ensures added { sums.new.acc.now ≡ with_pairs (beyond blade.mask) blade y sums.old.am.now sums.old.acc.now }
 {
-    let n = acc.len() as u32;
+    let n = sums.acc.len() as u32;
     let free = (n - 1) ^ blade.mask;
     if free != 0 {
-        add_subsets(dims, blade.mask, free, (n - free) & free, blade, y, am, acc);
+        add_subsets(sums, blade.mask, free, (n - free) & free, blade, y);
     }
 }
 
 // All the pairs that a blade of b has.
-fn add_blade(dims: u8, mode: Mode, blade: Blade, y: f64, am: &[f64], acc: &mut [f64])
-    requires dims_bound { (dims ≤ 9) × (blade.mask < 2 ^ dims) × (length am.now ≡ 2 ^ dims) × (length acc.old ≡ 2 ^ dims) }
+fn add_blade(sums: &mut Sums, mode: Mode, blade: Blade, y: f64)
+    requires mask_bound { blade.mask < 2 ^ sums.old.dims }
     requires null_value { bit_and blade.mask blade.null ≡ blade.null }
-    ensures { acc.new ≡ with_pairs (meets mode blade) blade y am.now acc.old }
+    ensures same_reference { sums.new.acc.ghost_name ≡ sums.old.acc.ghost_name }
+    ensures kept { (sums.new.dims ≡ sums.old.dims) × (sums.new.am ≡ sums.old.am) }
+    ensures added { sums.new.acc.now ≡ with_pairs (meets mode blade) blade y sums.old.am.now sums.old.acc.now }
 {
-    let full = acc.len() as u32 - 1;
+    let full = sums.acc.len() as u32 - 1;
     let b = blade.mask;
     let null = blade.null;
     match mode {
         Mode::All => {
             if null == 0 {
-                add_all(dims, blade, y, am, acc);
+                add_all(sums, blade, y);
             } else {
-                add_subsets(dims, 0, full ^ null, 0, blade, y, am, acc);
+                add_subsets(sums, 0, full ^ null, 0, blade, y);
             }
         }
-        Mode::Left => add_subsets(dims, 0, b ^ null, 0, blade, y, am, acc),
+        Mode::Left => add_subsets(sums, 0, b ^ null, 0, blade, y),
         Mode::Right => {
             if null == 0 {
-                add_subsets(dims, b, full ^ b, 0, blade, y, am, acc);
+                add_subsets(sums, b, full ^ b, 0, blade, y);
             }
         }
         Mode::Inner => {
-            add_subsets(dims, 0, b ^ null, 0, blade, y, am, acc);
+            add_subsets(sums, 0, b ^ null, 0, blade, y);
             if null == 0 {
-                add_beyond(dims, blade, y, am, acc);
+                add_beyond(sums, blade, y);
             }
         }
-        Mode::Outer => add_subsets(dims, 0, full ^ null, 0, blade, y, am, acc),
+        Mode::Outer => add_subsets(sums, 0, full ^ null, 0, blade, y),
     }
 }
 
@@ -157,147 +155,86 @@ fn turn_out(turn: u32, acc: &mut [f64])
     }
 }
 
-// The mask of a place, of those that are given: its bits below n, which is 2^d.
-fn mask_at(given: &[u16], n: usize, i: usize) -> u32
-    requires { (0 < n) × (n ≤ 512) × (i < length given.now) }
-    ensures { (d : ℕ) → n ≡ 2 ^ d → result ≡ low_mask given.now d i }
+// The mask of a place, of those that are given: its bits below the dimensions.
+fn mask_at(plan: Plan, i: usize) -> u32
+    requires { i < 2 ^ plan.shape.dims }
+    ensures { result ≡ plan_mask plan.entry i }
 {
-    given[i] as u32 & (n as u32 - 1)
+    plan.given[i] as u32 & ((1 << plan.shape.dims) - 1)
 }
 
 // a's numbers by mask, in an array that is all +0.
-fn lay_out(dims: u8, given: &[u16], a: &[f64], am: &mut [f64])
-    requires { (dims ≤ 9) × (length a.now ≡ 2 ^ dims) × (2 ^ dims ≤ length given.now) × (am.old ≡ replicate (2 ^ dims) nought) }
-    ensures am_after { am.new ≡ map (at_mask (low_mask given.now dims) dims a.now (2 ^ dims)) (up_from 0 (2 ^ dims)) }
+fn lay_out(plan: Plan, a: &[f64], am: &mut [f64])
+    requires { (length a.now ≡ 2 ^ plan.shape.dims) × (am.old ≡ replicate (2 ^ plan.shape.dims) nought) }
+    ensures am_after { let d = plan.entry.shape.dims in am.new ≡ map (at_mask (plan_mask plan.entry) d a.now (2 ^ d)) (up_from 0 (2 ^ d)) }
     ensures by_index { (i : ℕ) → T (fits binary64 (get_or a.now i nan)) }
 {
-    let mut i: usize = 0;
-    while i < a.len() {
-        let m = mask_at(given, a.len(), i);
-        am[m as usize] = a[i];
-        i += 1;
+    for (i, x) in a.iter().enumerate() {
+        am[mask_at(plan, i) as usize] = *x;
     }
 }
 
 // The sums of all pairs, by mask, in an array that is all +0: b's places in order.
-fn add_blades(
-    dims: u8,
-    turn: u32,
-    given: &[u16],
-    mode: Mode,
-    s: Squares,
-    b: &[f64],
-    am: &[f64],
-    acc: &mut [f64],
-)
-    requires { (dims ≤ 9) × (length b.now ≡ 2 ^ dims) × (2 ^ dims ≤ length given.now) × (length am.now ≡ 2 ^ dims) × (acc.old ≡ replicate (2 ^ dims) nought) }
-    ensures { acc.new ≡ rows_below (2 ^ dims) (low_mask given.now dims) turn mode s am.now b.now (2 ^ dims) }
+fn add_blades(plan: Plan, squares: Squares, turn: u32, b: &[f64], am: &[f64], acc: &mut [f64])
+    requires { (length b.now ≡ 2 ^ plan.shape.dims) × (length am.now ≡ 2 ^ plan.shape.dims) × (acc.old ≡ replicate (2 ^ plan.shape.dims) nought) }
+    ensures { let n = 2 ^ plan.entry.shape.dims in acc.new ≡ rows_below n (plan_mask plan.entry) turn plan.entry.mode squares am.now b.now n }
 {
-    let mut j: usize = 0;
-    while j < b.len() {
-        let m = mask_at(given, b.len(), j);
-        let y = turned_number(turn, m, b[j]);
-        add_blade(dims, mode, blade_of(s, m), y, am, acc);
-        j += 1;
+    let dims = plan.shape.dims;
+    let mut sums = Sums { dims, am, acc };
+    for (j, x) in b.iter().enumerate() {
+        let m = mask_at(plan, j);
+        let y = turned_number(turn, m, *x);
+        add_blade(&mut sums, plan.mode, blade_of(squares, m), y);
     }
 }
 
 // The sums at the places' masks, snapped.
-fn take_back(dims: u8, given: &[u16], acc: &[f64], out: &mut [f64])
-    requires { (dims ≤ 9) × (length acc.now ≡ 2 ^ dims) × (2 ^ dims ≤ length given.now) × (2 ^ dims ≤ length out.old) }
-    ensures { out.new ≡ laid (map (λ k. snap binary64 (get_or acc.now (low_mask given.now dims k) nan)) (up_from 0 (2 ^ dims))) out.old }
+fn take_back(plan: Plan, acc: &[f64], out: &mut [f64])
+    requires { (length acc.now ≡ 2 ^ plan.shape.dims) × (2 ^ plan.shape.dims ≤ length out.old) }
+    ensures { out.new ≡ laid (taken_by plan.entry acc.now) out.old }
 {
-    let mut k: usize = 0;
-    while k < acc.len() {
-        let m = mask_at(given, acc.len(), k);
-        out[k] = snap_one(acc[m as usize]);
-        k += 1;
+    for (k, x) in out[..acc.len()].iter_mut().enumerate() {
+        *x = snap_one(acc[mask_at(plan, k) as usize]);
     }
 }
 
-// The product of values whose places have the given masks. `am` and `acc` are lent, all +0.
-fn fill_by(
-    dims: u8,
-    given: &[u16],
-    mode: Mode,
-    s: Squares,
-    a: &[f64],
-    b: &[f64],
-    am: &mut [f64],
-    acc: &mut [f64],
-    out: &mut [f64],
-)
-    requires dims_bound { (dims ≤ 9) × (length a.now ≡ 2 ^ dims) × (length b.now ≡ 2 ^ dims) × (2 ^ dims ≤ length given.now) × (2 ^ dims ≤ length out.old) }
-    requires am_value { (am.old ≡ replicate (2 ^ dims) nought) × (acc.old ≡ replicate (2 ^ dims) nought) }
-    ensures { (f : Flavor) → s ≡ squares_below 9 (flavor_for mode f)
-        → out.new ≡ laid (product_by (low_mask given.now dims) dims mode f binary64 a.now b.now) out.old }
+// The product of values whose places have the masks of the plan. `am` and `acc` are lent, all +0.
+fn fill_by(plan: Plan, a: &[f64], b: &[f64], am: &mut [f64], acc: &mut [f64], out: &mut [f64])
+    requires a_len { (length a.now ≡ 2 ^ plan.shape.dims) × (length b.now ≡ 2 ^ plan.shape.dims) × (2 ^ plan.shape.dims ≤ length out.old) }
+    requires am_value { (am.old ≡ replicate (2 ^ plan.shape.dims) nought) × (acc.old ≡ replicate (2 ^ plan.shape.dims) nought) }
+    ensures { out.new ≡ laid (planned plan.entry a.now b.now) out.old }
 {
-    let turn = turned_mask(dims);
-    lay_out(dims, given, a, am);
+    let squares = squares_of(flavor_for(plan.mode, plan.shape.flavor));
+    let turn = turned_mask(plan.shape.dims);
+    lay_out(plan, a, am);
     turn_in(turn, am);
-    add_blades(dims, turn, given, mode, s, b, am, acc);
+    add_blades(plan, squares, turn, b, am, acc);
     turn_out(turn, acc);
-    take_back(dims, given, acc, out);
+    take_back(plan, acc, out);
+}
+
+// The same, by sums in arrays of N numbers.
+fn fill_in<const N: usize>(plan: Plan, a: &[f64], b: &[f64], out: &mut [f64])
+    requires a_len { (length a.now ≡ 2 ^ plan.shape.dims) × (length b.now ≡ 2 ^ plan.shape.dims) × (2 ^ plan.shape.dims ≤ length out.old) }
+    requires room { (2 ^ plan.shape.dims ≤ N) × (N ≤ 512) }
+    ensures { out.new ≡ laid (planned plan.entry a.now b.now) out.old }
+{
+    let mut am = [0.0; N];
+    let mut acc = [0.0; N];
+    let n = a.len();
+    fill_by(plan, a, b, &mut am[..n], &mut acc[..n], out);
 }
 
 // The same, in arrays as long as the dimensions want: what they are cleared for counts where there are few numbers.
-pub(crate) fn fill_given(
-    dims: u8,
-    given: &[u16],
-    mode: Mode,
-    s: Squares,
-    a: &[f64],
-    b: &[f64],
-    out: &mut [f64],
-)
-    requires { (dims ≤ 9) × (length a.now ≡ 2 ^ dims) × (length b.now ≡ 2 ^ dims) × (2 ^ dims ≤ length given.now) × (2 ^ dims ≤ length out.old) }
-    ensures { (f : Flavor) → s ≡ squares_below 9 (flavor_for mode f)
-        → out.new ≡ laid (product_by (low_mask given.now dims) dims mode f binary64 a.now b.now) out.old }
+pub(crate) fn fill_given(plan: Plan, a: &[f64], b: &[f64], out: &mut [f64])
+    requires { (length a.now ≡ 2 ^ plan.shape.dims) × (length b.now ≡ 2 ^ plan.shape.dims) × (2 ^ plan.shape.dims ≤ length out.old) }
+    ensures { out.new ≡ laid (planned plan.entry a.now b.now) out.old }
 {
-    let n = a.len();
-    if dims <= 4 {
-        let mut am = [0.0; 16];
-        let mut acc = [0.0; 16];
-        fill_by(
-            dims,
-            given,
-            mode,
-            s,
-            a,
-            b,
-            &mut am[0..n],
-            &mut acc[0..n],
-            out,
-        );
-        return;
+    if plan.shape.dims <= 4 {
+        fill_in::<16>(plan, a, b, out);
+    } else if plan.shape.dims <= 6 {
+        fill_in::<64>(plan, a, b, out);
+    } else {
+        fill_in::<512>(plan, a, b, out);
     }
-    if dims <= 6 {
-        let mut am = [0.0; 64];
-        let mut acc = [0.0; 64];
-        fill_by(
-            dims,
-            given,
-            mode,
-            s,
-            a,
-            b,
-            &mut am[0..n],
-            &mut acc[0..n],
-            out,
-        );
-        return;
-    }
-    let mut am = [0.0; 512];
-    let mut acc = [0.0; 512];
-    fill_by(
-        dims,
-        given,
-        mode,
-        s,
-        a,
-        b,
-        &mut am[0..n],
-        &mut acc[0..n],
-        out,
-    );
 }

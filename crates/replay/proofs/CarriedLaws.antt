@@ -6,6 +6,7 @@ use mathlib.Core.Logic.{◌⊎◌, ⊎_elim}
 use Prim.Native.Nat.{ℕ, zero, suc, ◌+◌, ◌≤◌, ◌<◌}
 use native.Mathlib.Omega.{arith}
 use lib.ListN.{length}
+use Rattle.std.specs.Prelude.{Option}
 use Rattle.masks.specs.Outcome.{Outcome}
 use Rattle.sheets.specs.Format.{Sheet}
 use Rattle.replay.specs.declared.log.Step.{Step}
@@ -16,13 +17,13 @@ use Rattle.replay.proofs.ReplayLaws.{step_stops, step_halts, step_goes_on}
 -- ---- one step
 
 -- the pose after it, and whether it is a halting step that fires
-abbrev pub after : Sheet → Step → Outcome → Outcome
+abbrev pub after : Sheet → Option Step → Outcome → Outcome
 after sheet s p = stepped s p (sheet_value sheet (named s))
 
-abbrev pub halts : Sheet → Step → Outcome → Bool
+abbrev pub halts : Sheet → Option Step → Outcome → Bool
 halts sheet s p = fires s p (sheet_value sheet (named s))
 
-module _ (sheet : Sheet) (s : Step) (ss : List Step) (p : Outcome) (n : ℕ) where
+module _ (sheet : Sheet) (s : Option Step) (ss : List (Option Step)) (p : Outcome) (n : ℕ) where
   abbrev q : Outcome
   q = after sheet s p
 
@@ -44,7 +45,7 @@ module _ (sheet : Sheet) (s : Step) (ss : List Step) (p : Outcome) (n : ℕ) whe
 -- ---- steps in two parts
 
 -- Where the first part neither stopped nor halted, the second goes on from its pose.
-pub in_two : (sheet : Sheet) (xs ys : List Step) (p : Outcome) (n : ℕ) → (carried_out sheet xs p n).stopped ≡ 0 → (carried_out sheet xs p n).halted ≡ false
+pub in_two : (sheet : Sheet) (xs ys : List (Option Step)) (p : Outcome) (n : ℕ) → (carried_out sheet xs p n).stopped ≡ 0 → (carried_out sheet xs p n).halted ≡ false
     → carried_out sheet (xs ++ ys) p n ≡ carried_out sheet ys (carried_out sheet xs p n).pose (carried_out sheet xs p n).steps
 unfolding carried_out
 in_two sheet [] ys p n = λ z f. refl
@@ -55,7 +56,7 @@ in_two sheet (s ∷ xs) ys p n =
     (λ e t z f. step_goes_on sheet s (xs ++ ys) p n e t ∙ in_two sheet xs ys _ (n + 1) z f)
 
 -- Where the first part stopped or halted, the second is not begun.
-pub in_one : (sheet : Sheet) (xs ys : List Step) (p : Outcome) (n : ℕ) → ((carried_out sheet xs p n).stopped ≡ 0 → ⊥) ⊎ ((carried_out sheet xs p n).halted ≡ true)
+pub in_one : (sheet : Sheet) (xs ys : List (Option Step)) (p : Outcome) (n : ℕ) → ((carried_out sheet xs p n).stopped ≡ 0 → ⊥) ⊎ ((carried_out sheet xs p n).halted ≡ true)
     → carried_out sheet (xs ++ ys) p n ≡ carried_out sheet xs p n
 unfolding carried_out
 in_one sheet [] ys p n = ⊎_elim (λ h. absurd (h refl)) (λ t. absurd (false≢true t))
@@ -74,7 +75,7 @@ pub record StepsCounted (n count : ℕ) (o : Replayed) : Type 0 where
   pub fewer : (o.stopped ≡ 0 → ⊥) → o.steps < n + count
   pub all : o.stopped ≡ 0 → o.halted ≡ false → o.steps ≡ n + count
 
-pub steps_counted : (sheet : Sheet) (ss : List Step) (p : Outcome) (n : ℕ) → StepsCounted n (length ss) (carried_out sheet ss p n)
+pub steps_counted : (sheet : Sheet) (ss : List (Option Step)) (p : Outcome) (n : ℕ) → StepsCounted n (length ss) (carried_out sheet ss p n)
 unfolding carried_out
 steps_counted sheet [] p n = record { from = omega arith; within = omega arith; fewer = λ h. absurd (h refl); all = λ z f. omega arith }
 steps_counted sheet (s ∷ ss) p n =
@@ -88,7 +89,7 @@ steps_counted sheet (s ∷ ss) p n =
 -- ---- the pose
 
 -- The pose that steps lead to is no refusal, if the one that they start from is none.
-pub pose_done : (sheet : Sheet) (ss : List Step) (p : Outcome) (n : ℕ) → p.number ≡ 0 → (carried_out sheet ss p n).pose.number ≡ 0
+pub pose_done : (sheet : Sheet) (ss : List (Option Step)) (p : Outcome) (n : ℕ) → p.number ≡ 0 → (carried_out sheet ss p n).pose.number ≡ 0
 unfolding carried_out
 pose_done sheet [] p n z = z
 pose_done sheet (s ∷ ss) p n z =

@@ -8,6 +8,7 @@ use lib.Count.{ones, ones_in}
 use lib.Ieee.{Float, nan, inf, fin, neg, of_bits, eq}
 use lib.ListN.{replicate}
 use Rattle.masks.specs.declared.flavor.Flavor.TheVariants.{Vanilla}
+use Rattle.std.specs.Prelude.{Some}
 use Rattle.masks.specs.Order.{order, grades_below, grade, index_of, place, start, size}
 use Rattle.masks.specs.Outcome.{Outcome, shape_of, value, unless, refusal}
 use Rattle.masks.specs.Shape.{coef, set_dims}
@@ -23,7 +24,7 @@ use Rattle.sheets.specs.Bytes.{little_endian, from_little_endian, all_bytes, sec
 use Rattle.sheets.specs.Format.{sheet_bytes, any_above_nine, blade_total}
 use Rattle.sheets.specs.Read.{said, is_sheet_bytes}
 use Rattle.replay.specs.declared.log.Step.TheVariants.{Dims}
-use Rattle.replay.specs.Log.{step_of, steps_of, fits, all_fit}
+use Rattle.replay.specs.Log.{step_of, steps_of, names, fits, all_fit}
 use Rattle.replay.specs.Step.{sheet_value, named, stepped, fires}
 use Rattle.replay.specs.Replay.{Replayed, carried_out, pose_at, refused_replay, replay}
 use Rattle.replay.proofs.RefusedLaws.{LogAccepted}
@@ -75,7 +76,7 @@ pub record Cases : Type 0 where
   pub small_room : replay 1 bytes [] 511 ≡ refused_replay 3
 
 pub cases : Cases
-unfolding unless refusal set_dims shape_from same all_zero is_scalar test_of if_scalar answers_agree equals kept little_endian from_little_endian all_bytes section parts sheet_bytes any_above_nine blade_total said is_sheet_bytes step_of steps_of fits all_fit sheet_value named stepped fires carried_out replay of_bits eq
+unfolding unless refusal set_dims shape_from same all_zero is_scalar test_of if_scalar answers_agree equals kept little_endian from_little_endian all_bytes section parts sheet_bytes any_above_nine blade_total said is_sheet_bytes step_of steps_of names fits all_fit sheet_value named stepped fires carried_out replay of_bits eq
 cases =
     record {
       empty = refl;
@@ -96,7 +97,7 @@ cases =
 
 -- 200 reverses are accepted.
 pub longest : LogAccepted bytes (replicate 400 2)
-unfolding said steps_of step_of all_fit fits from_little_endian parts
+unfolding said steps_of step_of all_fit fits names from_little_endian parts
 longest = record { some = omega arith; few = omega arith; fitting = refl }
 
 -- The log that stops, at cue 1 and from there on.
@@ -109,6 +110,6 @@ not_refused = ap (λ (o : Replayed). o.pose.number) cases.stops
 pub first_cue : AtCue (said bytes) (steps_of log) 1 (replay 1 bytes (2 ∷ 0 ∷ []) 512)
 first_cue = cue_pose 1 bytes log 512 not_refused 1 (omega (arith, ap (λ (o : Replayed). o.steps) cases.stops))
 
-pub from_first_cue : replay 1 bytes log 512 ≡ carried_out (said bytes) (Dims 10 ∷ []) (pose_at (said bytes) (steps_of log) 1) 1
+pub from_first_cue : replay 1 bytes log 512 ≡ carried_out (said bytes) (Some (Dims 10) ∷ []) (pose_at (said bytes) (steps_of log) 1) 1
 unfolding steps_of step_of
 from_first_cue = from_cue 1 bytes log 512 not_refused 1 (omega arith) first_cue.stopped (ap (λ (o : Replayed). o.halted) cases.goes_on)

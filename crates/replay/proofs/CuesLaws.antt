@@ -6,11 +6,11 @@ use Prim.Native.Nat.{ℕ, zero, suc, ◌+◌, ◌*◌, ◌≤◌}
 use native.Mathlib.Omega.{arith}
 use lib.ListN.{length, get_or, take, drop, take-append-drop}
 use lib.Seq.{length-take-le}
+use Rattle.std.specs.Prelude.{Option, None}
 use Rattle.masks.specs.Outcome.{Outcome}
 use Rattle.sheets.specs.Format.{Sheet}
 use Rattle.sheets.specs.Read.{said}
 use Rattle.replay.specs.declared.log.Step.{Step}
-use Rattle.replay.specs.declared.log.Step.TheVariants.{Unknown}
 use Rattle.replay.specs.Log.{steps_of}
 use Rattle.replay.specs.Step.{sheet_value, stepped}
 use Rattle.replay.specs.Replay.{Replayed, carried_out, pose_at, replay}
@@ -22,13 +22,13 @@ use Rattle.replay.proofs.RefusedLaws.{LogAccepted, done_when, done_only, done_re
 -- ---- k steps
 
 -- the pose that they lead to, from p on
-after_steps : Sheet → List Step → Outcome → ℕ → Outcome
+after_steps : Sheet → List (Option Step) → Outcome → ℕ → Outcome
 after_steps sheet ss p zero = p
 after_steps sheet [] p (suc k) = p
 after_steps sheet (s ∷ ss) p (suc k) = after_steps sheet ss (after sheet s p) k
 
 -- one more
-after_next : (sheet : Sheet) (ss : List Step) (p : Outcome) (k : ℕ) → after_steps sheet ss p (suc k) ≡ after sheet (get_or ss k Unknown) (after_steps sheet ss p k)
+after_next : (sheet : Sheet) (ss : List (Option Step)) (p : Outcome) (k : ℕ) → after_steps sheet ss p (suc k) ≡ after sheet (get_or ss k None) (after_steps sheet ss p k)
 unfolding after_steps stepped
 after_next sheet [] p zero = refl
 after_next sheet [] p (suc k) = refl
@@ -36,21 +36,21 @@ after_next sheet (s ∷ ss) p zero = refl
 after_next sheet (s ∷ ss) p (suc k) = after_next sheet ss (after sheet s p) k
 
 -- the pose at cue k is that of k steps from value 0 on
-from_first : (sheet : Sheet) (ss : List Step) (k : ℕ) → after_steps sheet ss (sheet_value sheet 0) k ≡ pose_at sheet ss k
+from_first : (sheet : Sheet) (ss : List (Option Step)) (k : ℕ) → after_steps sheet ss (sheet_value sheet 0) k ≡ pose_at sheet ss k
 unfolding after_steps pose_at
 from_first sheet ss zero = refl
-from_first sheet ss (suc k) = after_next sheet ss (sheet_value sheet 0) k ∙ ap (after sheet (get_or ss k Unknown)) (from_first sheet ss k)
+from_first sheet ss (suc k) = after_next sheet ss (sheet_value sheet 0) k ∙ ap (after sheet (get_or ss k None)) (from_first sheet ss k)
 
 -- ---- the first k steps
 
 -- Where k steps lead, from p on and after n others.
-record Reached (sheet : Sheet) (ss : List Step) (p : Outcome) (n k : ℕ) (o : Replayed) : Type 0 where
+record Reached (sheet : Sheet) (ss : List (Option Step)) (p : Outcome) (n k : ℕ) (o : Replayed) : Type 0 where
   pose : o.pose ≡ after_steps sheet ss p k
   steps : o.steps ≡ n + k
   stopped : o.stopped ≡ 0
 
 -- Where so many are carried out, the first k alone lead there.
-first_steps : (sheet : Sheet) (ss : List Step) (p : Outcome) (n k : ℕ) → n + k ≤ (carried_out sheet ss p n).steps → Reached sheet ss p n k (carried_out sheet (take k ss) p n)
+first_steps : (sheet : Sheet) (ss : List (Option Step)) (p : Outcome) (n k : ℕ) → n + k ≤ (carried_out sheet ss p n).steps → Reached sheet ss p n k (carried_out sheet (take k ss) p n)
 unfolding carried_out after_steps
 first_steps sheet ss p n zero = λ l. record { pose = refl; steps = omega arith; stopped = refl }
 first_steps sheet [] p n (suc k) = λ l. absurd (omega arith)
@@ -63,7 +63,7 @@ first_steps sheet (s ∷ ss) p n (suc k) =
     rw (step_goes_on sheet s (take k ss) p n e t) (record { pose = r.pose; steps = omega (arith, r.steps); stopped = r.stopped }))
 
 -- The last pose is that of as many steps as were carried out.
-last_steps : (sheet : Sheet) (ss : List Step) (p : Outcome) (n k : ℕ) → (carried_out sheet ss p n).steps ≡ n + k → (carried_out sheet ss p n).pose ≡ after_steps sheet ss p k
+last_steps : (sheet : Sheet) (ss : List (Option Step)) (p : Outcome) (n k : ℕ) → (carried_out sheet ss p n).steps ≡ n + k → (carried_out sheet ss p n).pose ≡ after_steps sheet ss p k
 unfolding carried_out after_steps
 last_steps sheet [] p n zero = λ l. refl
 last_steps sheet [] p n (suc k) = λ l. absurd (omega arith)
@@ -81,7 +81,7 @@ last_steps sheet (s ∷ ss) p n (suc k) =
 -- ---- the call, cue for cue
 
 -- A replay that has come to cue k, with no refusal: it has the pose at the cue, and k steps are carried out.
-pub record AtCue (sheet : Sheet) (ss : List Step) (k : ℕ) (o : Replayed) : Type 0 where
+pub record AtCue (sheet : Sheet) (ss : List (Option Step)) (k : ℕ) (o : Replayed) : Type 0 where
   pub pose : o.pose ≡ pose_at sheet ss k
   pub steps : o.steps ≡ k
   pub stopped : o.stopped ≡ 0
@@ -91,11 +91,11 @@ module _ (form : ℕ) (b log : List ℕ) (room : ℕ) (d : (replay form b log ro
   abbrev sheet : Sheet
   sheet = said b
 
-  abbrev ss : List Step
+  abbrev ss : List (Option Step)
   ss = steps_of log
 
   -- the steps carried out of a list of them, from value 0 on
-  abbrev run : List Step → Replayed
+  abbrev run : List (Option Step) → Replayed
   run xs = carried_out sheet xs (sheet_value sheet 0) 0
 
   -- the bytes of the first k steps

@@ -7,13 +7,18 @@ use native.Mathlib.Nat.{zero-lt-suc, le_of_suc-le-suc, not-suc-le-zero}
 use native.Mathlib.Omega.{arith}
 use borrow.Author.Tests.{ltb-true, ltb-false, le-ltb, eqb-true, eqb-false, ne_eqb, not-false}
 use lib.Dec.{eqb, ltb}
-use lib.ListN.{length, get_or, take, replicate}
+use lib.ListN.{length, get_or, take, drop, replicate}
+use lib.Seq.{get_or-take, get_or-drop}
+use Rattle.std.specs.List.{list_all}
+use Rattle.std.specs.Prelude.{Option, None, Some, is_some}
 use Rattle.masks.specs.Outcome.{refusal}
 use Rattle.masks.proofs.ListLaws.{both_true}
 use Rattle.masks.proofs.OutcomeLaws.{past}
+use Rattle.sheets.specs.Bytes.{parts}
+use Rattle.sheets.proofs.BytesLaws.{get_d-parts}
 use Rattle.replay.specs.declared.log.Step.{Step}
-use Rattle.replay.specs.declared.log.Step.TheVariants.{Right, Left, Reverse, Dims, Halt, Unknown}
-use Rattle.replay.specs.Log.{step_of, steps_of, fits, all_fit, log_tests}
+use Rattle.replay.specs.declared.log.Step.TheVariants.{Right, Left, Reverse, Dims, Halt}
+use Rattle.replay.specs.Log.{step_of, steps_of, names, fits, all_fit, log_tests}
 use Rattle.replay.specs.Step.{named}
 
 -- ---- the steps of a log
@@ -25,7 +30,7 @@ steps_length (kind ∷ []) = refl
 steps_length (kind ∷ k ∷ log) = omega (arith, steps_length log)
 
 -- the step at an index
-pub step_at : (log : List ℕ) (i : ℕ) → 2 * i + 1 < length log → get_or (steps_of log) i Unknown ≡ step_of (get_or log (2 * i) 0) (get_or log (2 * i + 1) 0)
+pub step_at : (log : List ℕ) (i : ℕ) → 2 * i + 1 < length log → get_or (steps_of log) i None ≡ step_of (get_or log (2 * i) 0) (get_or log (2 * i + 1) 0)
 unfolding steps_of
 step_at [] i h = absurd (omega arith)
 step_at (kind ∷ []) i h = absurd (omega arith)
@@ -43,35 +48,37 @@ steps_take [] (suc k) h = absurd (omega arith)
 steps_take (kind ∷ []) (suc k) h = absurd (omega arith)
 steps_take (kind ∷ j ∷ log) (suc k) h =
     let e : 2 * suc k ≡ suc (suc (2 * k)) = omega arith in
-    rw e (ap (λ (ss : List Step). step_of kind j ∷ ss) (steps_take log k (omega arith)))
+    rw e (ap (λ (ss : List (Option Step)). step_of kind j ∷ ss) (steps_take log k (omega arith)))
 
 -- ---- steps that fit
 
-pub fit_at : (n : ℕ) (ss : List Step) (i : ℕ) → i < length ss → all_fit n ss ≡ true → fits n (get_or ss i Unknown) ≡ true
+pub fit_at : (n : ℕ) (ss : List (Option Step)) (i : ℕ) → i < length ss → all_fit n ss ≡ true → fits n (get_or ss i None) ≡ true
 unfolding all_fit
 fit_at n [] i h e = absurd (not-suc-le-zero h)
 fit_at n (s ∷ ss) zero h e = (both_true (fits n s) (all_fit n ss) e).0
 fit_at n (s ∷ ss) (suc i) h e = fit_at n ss i (le_of_suc-le-suc h) (both_true (fits n s) (all_fit n ss) e).1
 
-pub fit_all : (n : ℕ) (ss : List Step) → ((i : ℕ) → i < length ss → fits n (get_or ss i Unknown) ≡ true) → all_fit n ss ≡ true
-unfolding all_fit
-fit_all n [] h = refl
-fit_all n (s ∷ ss) h = ap₂ ◌&&◌ (h 0 (zero-lt-suc (length ss))) (fit_all n ss (λ i l. h (suc i) (suc-le-suc l)))
+-- the test of the library's `all`, pair by pair
+pub fit_every : (n : ℕ) (log : List ℕ) → length log % 2 ≡ 0 → list_all (λ c. fits n (step_of (get_or c 0 0) (get_or c 1 0))) (parts 2 (length log / 2) log) ≡ all_fit n (steps_of log)
+unfolding all_fit steps_of parts
+fit_every n [] h = refl
+fit_every n (kind ∷ []) h = absurd (omega arith)
+fit_every n (kind ∷ k ∷ log) h =
+    let m : length (kind ∷ k ∷ log) / 2 ≡ suc (length log / 2) = omega arith in
+    rw m (ap (λ (b : Bool). fits n (step_of kind k) && b) (fit_every n log (omega arith)))
 
-pub misfit : (n : ℕ) (ss : List Step) (i : ℕ) → i < length ss → fits n (get_or ss i Unknown) ≡ false → all_fit n ss ≡ false
-unfolding all_fit
-misfit n [] i h e = absurd (not-suc-le-zero h)
-misfit n (s ∷ ss) zero h e = rw e
-misfit n (s ∷ ss) (suc i) h e = rw (misfit n ss i (le_of_suc-le-suc h) e) (and-false (fits n s))
+-- a pair of the log's bytes
+pub pair_at : (log : List ℕ) (i j : ℕ) → i < length log / 2 → j < 2 → get_or (get_or (parts 2 (length log / 2) log) i []) j 0 ≡ get_or log (2 * i + j) 0
+pair_at log i j h l = rw (get_d-parts 2 (length log / 2) log i h) (get_or-take 2 (drop (2 * i) log) j 0 l ∙ get_or-drop (2 * i) log j 0)
 
 -- a step that does not fit
-pub record Unfit (n : ℕ) (ss : List Step) : Type 0 where
+pub record Unfit (n : ℕ) (ss : List (Option Step)) : Type 0 where
   pub index : ℕ
   pub inside : index < length ss
-  pub misfits : fits n (get_or ss index Unknown) ≡ false
+  pub misfits : fits n (get_or ss index None) ≡ false
 
 -- where not all fit, there is one
-pub unfit_one : (n : ℕ) (ss : List Step) → all_fit n ss ≡ false → Unfit n ss
+pub unfit_one : (n : ℕ) (ss : List (Option Step)) → all_fit n ss ≡ false → Unfit n ss
 unfolding all_fit
 unfit_one n [] e = absurd (true≢false e)
 unfit_one n (s ∷ ss) e = go (fits n s) refl e (unfit_one n ss)
@@ -80,7 +87,7 @@ unfit_one n (s ∷ ss) e = go (fits n s) refl e (unfit_one n ss)
     go true q r f = let u = f r in record { index = suc u.index; inside = suc-le-suc u.inside; misfits = u.misfits }
     go false q r f = record { index = 0; inside = zero-lt-suc (length ss); misfits = q }
 
-pub fit_take : (n : ℕ) (ss : List Step) (k : ℕ) → all_fit n ss ≡ true → all_fit n (take k ss) ≡ true
+pub fit_take : (n : ℕ) (ss : List (Option Step)) (k : ℕ) → all_fit n ss ≡ true → all_fit n (take k ss) ≡ true
 unfolding all_fit
 fit_take n ss zero e = refl
 fit_take n [] (suc k) e = refl
@@ -103,24 +110,30 @@ two_bytes n (kind ∷ []) e = absurd (false≢true e)
 two_bytes n (kind ∷ k ∷ log) e = omega (arith, two_bytes n log (both_true (fits n (step_of kind k)) (all_fit n (steps_of log)) e).1)
 
 -- the value that a fitting step names is in the sheet
-pub named_lt : (n : ℕ) (s : Step) → 0 < n → fits n s ≡ true → named s < n
-unfolding fits named
-named_lt n (Right k) h e = ltb-true k n e
-named_lt n (Left k) h e = ltb-true k n e
-named_lt n Reverse h e = h
-named_lt n (Dims m) h e = h
-named_lt n (Halt k) h e = ltb-true k n e
-named_lt n Unknown h e = h
+pub named_lt : (n : ℕ) (s : Option Step) → 0 < n → fits n s ≡ true → named s < n
+unfolding fits named names
+named_lt n (Some (Right k)) h e = ltb-true k n e
+named_lt n (Some (Left k)) h e = ltb-true k n e
+named_lt n (Some Reverse) h e = h
+named_lt n (Some (Dims m)) h e = h
+named_lt n (Some (Halt k)) h e = ltb-true k n e
+named_lt n None h e = h
+
+-- a step that fits has a kind that is known
+pub fits_known : (n : ℕ) (s : Option Step) → fits n s ≡ true → is_some s ≡ true
+unfolding fits
+fits_known n None e = absurd (false≢true e)
+fits_known n (Some s) e = refl
 
 -- ---- 10, exactly when
 
 -- a log that is not refused
-pub record Accepted (n : ℕ) (ss : List Step) : Type 0 where
+pub record Accepted (n : ℕ) (ss : List (Option Step)) : Type 0 where
   pub some : 0 < n
   pub few : length ss ≤ 200
   pub fitting : all_fit n ss ≡ true
 
-pub accepted : (n : ℕ) (ss : List Step) → refusal (log_tests n ss) ≡ 0 → Accepted n ss
+pub accepted : (n : ℕ) (ss : List (Option Step)) → refusal (log_tests n ss) ≡ 0 → Accepted n ss
 accepted n ss e =
     let p = past _ _ (λ q. omega arith) e in
     let q = past _ _ (λ q. omega arith) p.1 in
@@ -131,7 +144,7 @@ accepted n ss e =
       fitting = not-false (all_fit n ss) r.0;
     }
 
-pub accepted_done : (n : ℕ) (ss : List Step) → Accepted n ss → refusal (log_tests n ss) ≡ 0
+pub accepted_done : (n : ℕ) (ss : List (Option Step)) → Accepted n ss → refusal (log_tests n ss) ≡ 0
 unfolding refusal
 accepted_done n ss a =
     simp (ne_eqb n 0 (λ e. omega (arith, a.some)), le-ltb 200 (length ss) a.few, a.fitting)
@@ -140,7 +153,7 @@ accepted_done n ss a =
 abbrev number : Bool → Bool → Bool → ℕ
 number none many fit = cond none 10 (cond many 10 (cond (not fit) 10 0))
 
-pub zero_or_ten : (n : ℕ) (ss : List Step) → (refusal (log_tests n ss) ≡ 0 → ⊥) → refusal (log_tests n ss) ≡ 10
+pub zero_or_ten : (n : ℕ) (ss : List (Option Step)) → (refusal (log_tests n ss) ≡ 0 → ⊥) → refusal (log_tests n ss) ≡ 10
 unfolding refusal
 zero_or_ten n ss h = go (eqb n 0) (ltb 200 (length ss)) (all_fit n ss) h
   where
@@ -151,25 +164,25 @@ zero_or_ten n ss h = go (eqb n 0) (ltb 200 (length ss)) (all_fit n ss) h
     go false false false g = refl
 
 -- what is refused is refused with 10
-pub refused_ten : (n : ℕ) (ss : List Step) → (Accepted n ss → ⊥) → refusal (log_tests n ss) ≡ 10
+pub refused_ten : (n : ℕ) (ss : List (Option Step)) → (Accepted n ss → ⊥) → refusal (log_tests n ss) ≡ 10
 refused_ten n ss h = zero_or_ten n ss (λ e. h (accepted n ss e))
 
 -- why a log is refused: the sheet has no values, there are more than 200 steps, or a step does not fit
-pub data Refusable (n : ℕ) (ss : List Step) : Type 0 where
+pub data Refusable (n : ℕ) (ss : List (Option Step)) : Type 0 where
   empty : n ≡ 0 → Refusable n ss
   long : 200 < length ss → Refusable n ss
   unfit : Unfit n ss → Refusable n ss
 
-pub log_ten_when : (n : ℕ) (ss : List Step) → Refusable n ss → refusal (log_tests n ss) ≡ 10
+pub log_ten_when : (n : ℕ) (ss : List (Option Step)) → Refusable n ss → refusal (log_tests n ss) ≡ 10
 log_ten_when n ss (empty e) = refused_ten n ss (λ a. omega (arith, a.some))
 log_ten_when n ss (long h) = refused_ten n ss (λ a. omega (arith, a.few))
 log_ten_when n ss (unfit u) = refused_ten n ss (λ a. true≢false (sym (fit_at n ss u.index u.inside a.fitting) ∙ u.misfits))
 
-pub log_ten_only : (n : ℕ) (ss : List Step) → refusal (log_tests n ss) ≡ 10 → Accepted n ss → ⊥
+pub log_ten_only : (n : ℕ) (ss : List (Option Step)) → refusal (log_tests n ss) ≡ 10 → Accepted n ss → ⊥
 log_ten_only n ss e a = omega (arith, accepted_done n ss a)
 
 -- and then for one of these reasons
-pub log_ten_why : (n : ℕ) (ss : List Step) → refusal (log_tests n ss) ≡ 10 → Refusable n ss
+pub log_ten_why : (n : ℕ) (ss : List (Option Step)) → refusal (log_tests n ss) ≡ 10 → Refusable n ss
 unfolding refusal
 log_ten_why n ss e = go (eqb n 0) (ltb 200 (length ss)) (all_fit n ss) refl refl refl e
   where
@@ -181,15 +194,15 @@ log_ten_why n ss e = go (eqb n 0) (ltb 200 (length ss)) (all_fit n ss) refl refl
 
 -- ---- logs of both kinds
 
-pub longest_accepted : Accepted 1 (replicate 200 Reverse)
-unfolding refusal all_fit fits
-longest_accepted = accepted 1 (replicate 200 Reverse) refl
+pub longest_accepted : Accepted 1 (replicate 200 (Some Reverse))
+unfolding refusal all_fit fits names
+longest_accepted = accepted 1 (replicate 200 (Some Reverse)) refl
 
-pub one_too_many : Refusable 1 (replicate 201 Reverse)
+pub one_too_many : Refusable 1 (replicate 201 (Some Reverse))
 unfolding refusal
-one_too_many = log_ten_why 1 (replicate 201 Reverse) refl
+one_too_many = log_ten_why 1 (replicate 201 (Some Reverse)) refl
 
 -- behind a step that halts, too
-pub outside_unfit : Refusable 1 (Halt 0 ∷ Right 1 ∷ [])
-unfolding fits
+pub outside_unfit : Refusable 1 (Some (Halt 0) ∷ Some (Right 1) ∷ [])
+unfolding fits names
 outside_unfit = unfit (record { index = 1; inside = omega arith; misfits = refl })

@@ -2,9 +2,10 @@
 use mathlib.Core.List.{List}
 use Prim.Native.Nat.{ℕ}
 use lib.Dec.{T}
+use Rattle.std.specs.Prelude.{Option}
 use Rattle.masks.proofs.Lowest.{rises}
 use Rattle.replay.specs.declared.log.Step.{Step}
 use Rattle.replay.specs.Log.{log_tests}
 
-pub log_rises : (n : ℕ) (ss : List Step) → T (rises 1 (log_tests n ss))
+pub log_rises : (n : ℕ) (ss : List (Option Step)) → T (rises 1 (log_tests n ss))
 log_rises n ss = tt

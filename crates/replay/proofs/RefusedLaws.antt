@@ -9,16 +9,18 @@ use lib.Dec.{eqb}
 use lib.Ieee.{Float}
 use lib.ListN.{length}
 use borrow.Author.Tests.{lt-ltb, le-ltb, eq-eqb, ne_eqb, eqb-true}
-use Rattle.masks.specs.Outcome.{Test, refusal, no_room, laid}
+use Rattle.std.specs.Prelude.{Option, Result, Err}
+use Rattle.masks.specs.declared.outcome.Refusal.{Refusal}
+use Rattle.masks.specs.Outcome.{Test, number_of, refusal, no_room, laid}
 use Rattle.masks.proofs.ListLaws.{split, both_true}
-use Rattle.masks.proofs.OutcomeLaws.{unless_number, unless_refused, unless_done, refused_first, refused_later, refused_already}
+use Rattle.masks.proofs.OutcomeLaws.{refuses, unless_number, unless_refused, unless_done, refused_first, refused_later, refused_already}
 use Rattle.arithmetic.proofs.PowerLaws.{not_both}
 use Rattle.sheets.specs.Read.{said, is_sheet_bytes}
 use Rattle.replay.specs.declared.log.Step.{Step}
 use Rattle.replay.specs.declared.outcome.Replay.{Replay}
 use Rattle.replay.specs.Log.{steps_of, log_tests}
 use Rattle.replay.specs.Step.{sheet_value}
-use Rattle.replay.specs.Replay.{Replayed, carried_out, malformed_in, replay_tests, refused_replay, replay, replay_of, Replays}
+use Rattle.replay.specs.Replay.{Replayed, carried_out, malformed_in, replay_tests, refused_replay, replay, Replays}
 use Rattle.replay.proofs.LogLaws.{Accepted, Refusable, accepted, accepted_done, refused_ten, log_ten_why}
 use Rattle.replay.proofs.CarriedLaws.{pose_done}
 
@@ -46,7 +48,7 @@ readable_true : (form : ℕ) (b : List ℕ) → Readable form b → (eqb form 1 
 readable_true form b r = ap₂ ◌&&◌ (eq-eqb form 1 r.first) r.bytes
 
 -- where the log is accepted, the tests after its own count
-accepted_passes : (n : ℕ) (ss : List Step) (us : List Test) → Accepted n ss → refusal (log_tests n ss ++ us) ≡ refusal us
+accepted_passes : (n : ℕ) (ss : List (Option Step)) (us : List Test) → Accepted n ss → refusal (log_tests n ss ++ us) ≡ refusal us
 unfolding refusal
 accepted_passes n ss us a = rw (ne_eqb n 0 (λ z. omega (arith, a.some)), le-ltb 200 (length ss) a.few, a.fitting)
 
@@ -60,7 +62,7 @@ readable_or form b = go (eqb form 1 && is_sheet_bytes b) refl
         inl (record { first = eqb-true form 1 p.0; bytes = p.1 })
     go false e = inr (λ r. false≢true (sym e ∙ readable_true form b r))
 
-accepted_or : (n : ℕ) (ss : List Step) → Accepted n ss ⊎ (Accepted n ss → ⊥)
+accepted_or : (n : ℕ) (ss : List (Option Step)) → Accepted n ss ⊎ (Accepted n ss → ⊥)
 accepted_or n ss = go (refusal (log_tests n ss)) refl
   where
     go : (k : ℕ) → refusal (log_tests n ss) ≡ k → Accepted n ss ⊎ (Accepted n ss → ⊥)
@@ -161,8 +163,8 @@ module _ (form : ℕ) (b log : List ℕ) (room : ℕ) where
   refused_replay_lem h = unless_refused refused_replay (refusal (replay_tests form b log room)) (replay form b log room).pose.number _ number_given h
 
   -- and leaves the output
-  pub refused_answers : {r : Replay} {out : List Float} (k : ℕ) → 0 < k → (replay form b log room).pose.number ≡ k → r ≡ replay_of (refused_replay k) → Replays (replay form b log room) r out out
-  refused_answers k h e p = rw (refused_replay_lem (λ z. omega (arith, e)), e) (record { answered = p; left = refl })
+  pub refused_answers : {out : List Float} (e : Refusal) → (replay form b log room).pose.number ≡ number_of e → Replays (replay form b log room) (Err e) out out
+  refused_answers e h = rw (refused_replay_lem (λ z. refuses e (sym h ∙ z)), h) (record { answered = refl; left = refl })
 
   -- A call that is done carries out the steps of its log, from value 0 of the sheet on.
   pub done_replay : (replay form b log room).pose.number ≡ 0 → replay form b log room ≡ carried_out (said b) (steps_of log) (sheet_value (said b) 0) 0
@@ -170,7 +172,7 @@ module _ (form : ℕ) (b log : List ℕ) (room : ℕ) where
   done_replay e = unless_done refused_replay (refusal (replay_tests form b log room)) 0 _ (sym (sym number_given ∙ e)) refl
 
   -- A refused call leaves the output as it was.
-  pub refused_writes_nothing : {r : Replay} {before after : List Float} → ((replay form b log room).pose.number ≡ 0 → ⊥) → Replays (replay form b log room) r before after → after ≡ before
+  pub refused_writes_nothing : {r : Result Replay Refusal} {before after : List Float} → ((replay form b log room).pose.number ≡ 0 → ⊥) → Replays (replay form b log room) r before after → after ≡ before
   refused_writes_nothing {before = before} h g = g.left ∙ ap (λ (o : Replayed). laid o.pose.coefs before) (refused_replay_lem h)
 
   -- What holds of either holds of every call.

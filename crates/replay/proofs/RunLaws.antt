@@ -1,5 +1,5 @@
 -- A run: where the pose and a named value are held, and what a turn leaves of the log. Assumes nothing.
-use mathlib.Core.Path.{◌≡◌, refl, sym, ap, ap₂, ◌∙◌}
+use mathlib.Core.Path.{◌≡◌, refl, sym, ap, ap₂, ◌∙◌, subst}
 use mathlib.Core.Bool.{Bool, true, false, not}
 use mathlib.Core.List.{List, ◌∷◌}
 use Prim.Native.Nat.{ℕ, ◌+◌, ◌*◌, ◌^◌, ◌≤◌, ◌<◌}
@@ -8,25 +8,26 @@ use native.Mathlib.Omega.{arith}
 use lib.Ieee.{Float}
 use lib.ListN.{length, get_or, take, drop}
 use lib.Seq.{length-take-le, drop-cons, drop-length}
-use Rattle.masks.specs.declared.outcome.Answer.{Answer}
+use Rattle.std.proofs.lemmas.Result.{MatchResult-at_ok, MatchResult-at_err}
+use Rattle.std.specs.Prelude.{Option, None, Some, is_some, Result, Ok, Err, MatchResult}
+use Rattle.masks.specs.declared.outcome.Refusal.{Refusal}
 use Rattle.masks.specs.declared.shape.Shape.{Shape}
-use Rattle.masks.specs.Outcome.{Outcome, value, laid}
+use Rattle.masks.specs.Outcome.{number_of, Outcome, value, laid}
 use Rattle.masks.proofs.ListLaws.{take_laid}
 use Rattle.masks.proofs.OrderLaws.{blades_le}
-use Rattle.sheets.specs.declared.shapes.Shapes.{Shapes}
+use Rattle.masks.proofs.OutcomeLaws.{refuses}
 use Rattle.sheets.specs.Format.{Sheet}
 use Rattle.sheets.specs.Read.{said, is_sheet_bytes}
-use Rattle.sheets.specs.Shapes.{shapes_of}
 use Rattle.sheets.specs.Values.{start_of}
 use Rattle.replay.specs.declared.log.Step.{Step}
-use Rattle.replay.specs.declared.log.Step.TheVariants.{Unknown}
 use Rattle.replay.specs.declared.outcome.Replay.{Replay}
 use Rattle.replay.specs.declared.step.Tried.{Tried}
-use Rattle.replay.specs.Step.{sheet_value, named, stepped}
-use Rattle.replay.specs.Replay.{Replayed, carried_out, Replays}
-use Rattle.replay.specs.inner.Turns.{names, held_value, numbers_at, Tries, turn}
+use Rattle.replay.specs.Log.{names}
+use Rattle.replay.specs.Step.{sheet_value, named, stepped, fires}
+use Rattle.replay.specs.Replay.{Replayed, carried_out, IsStop, IsReplay}
+use Rattle.replay.specs.inner.Turns.{held_value, numbers_at, IsTried, Tries, turn}
 use Rattle.replay.proofs.StepLaws.{IsValue, stepped_value, unnamed}
-use Rattle.replay.proofs.ValueLaws.{shape_at, value_shape, held_at, sheet_few, shape_small, value_few, value_inside, value_lies, value_is}
+use Rattle.replay.proofs.ValueLaws.{shape_at, value_shape, shape_small, value_few, value_inside, value_lies, value_is}
 use Rattle.replay.proofs.ReplayLaws.{step_stops, step_halts, step_goes_on}
 
 -- ---- a value at the front of an array
@@ -47,39 +48,40 @@ held_value_lem s xs h l = record { done = refl; small = h; counted = length-take
 
 -- ---- the values of a sheet
 
-module _ (b : List ℕ) (e : is_sheet_bytes b ≡ true) (shapes : Shapes) (q : shapes ≡ shapes_of (said b).shapes) (i : ℕ) (h : i < length (said b).shapes) where
-  -- the shape that the record holds is the sheet's
-  pub held_shape : shape_at shapes.held i ≡ shape_at (said b).shapes i
-  held_shape = ap (λ (u : Shapes). shape_at u.held i) q ∙ held_at (said b).shapes i (sheet_few b e) h
-
-  pub held_dims : (shape_at shapes.held i).dims ≤ 9
-  held_dims = rw held_shape (shape_small b e i h)
+module _ (b : List ℕ) (e : is_sheet_bytes b ≡ true) (listed : List Shape) (q : listed ≡ (said b).shapes) (i : ℕ) (h : i < length (said b).shapes) where
+  pub held_dims : (shape_at listed i).dims ≤ 9
+  held_dims = rw q (shape_small b e i h)
 
   -- its patterns end within those that a sheet has at most, and within the bytes
-  pub held_few : start_of (said b).shapes i + 2 ^ (shape_at shapes.held i).dims ≤ 4096
-  held_few = rw held_shape (value_few b e i h)
+  pub held_few : start_of listed i + 2 ^ (shape_at listed i).dims ≤ 4096
+  held_few = rw q (value_few b e i h)
 
-  pub held_inside : 6 + 5 * shapes.count + 8 * (start_of (said b).shapes i + 2 ^ (shape_at shapes.held i).dims) ≤ length b
-  held_inside = rw (held_shape, q) (value_inside b e i h)
+  pub held_inside : 6 + 5 * length listed + 8 * (start_of listed i + 2 ^ (shape_at listed i).dims) ≤ length b
+  held_inside = rw q (value_inside b e i h)
 
   -- the numbers that are read from where they lie are the value's
-  pub held_read : (k : ℕ) (before after : List Float) → k ≡ start_of (said b).shapes i → after ≡ laid (numbers_at b shapes.count k (2 ^ (shape_at shapes.held i).dims)) before → held_value (shape_at shapes.held i) after ≡ sheet_value (said b) i
+  pub held_read : (k : ℕ) (before after : List Float) → k ≡ start_of listed i → after ≡ laid (numbers_at b (length listed) k (2 ^ (shape_at listed i).dims)) before → held_value (shape_at listed i) after ≡ sheet_value (said b) i
   held_read k before after f g =
-      laid_held (sheet_value (said b) i) _ before after (value_is b e i h) (held_shape ∙ sym (value_shape (said b) i))
-      (g ∙ rw (held_shape, f, q, value_lies b e i h))
+      laid_held (sheet_value (said b) i) _ before after (value_is b e i h) (ap (λ (ss : List Shape). shape_at ss i) q ∙ sym (value_shape (said b) i))
+      (g ∙ rw (f, q, value_lies b e i h))
 
 -- what is tried is the value that a step names, where it names one
-pub tried_named : {s : Step} {p v w : Outcome} {r : Tried} {before after : List Float} → (names s ≡ true → w ≡ v) → Tries s p w r before after → Tries s p v r before after
-tried_named {s} {p} {v} {w} {r} {before} {after} e g = go (names s) refl
+pub tried_named : {s : Step} {p v w : Outcome} {r : Result Tried Refusal} {before after : List Float} → (is_some (names s) ≡ true → w ≡ v) → Tries s p w r before after → Tries s p v r before after
+tried_named {s} {p} {v} {w} {r} {before} {after} e g = go (is_some (names s)) refl
   where
-    go : (t : Bool) → names s ≡ t → Tries s p v r before after
+    go : (t : Bool) → is_some (names s) ≡ t → Tries s p v r before after
     go true m = rw (e m) at g
-    go false m = let u = unnamed s p w v m in record { gives = rw u.0 at g.gives; fired = g.fired ∙ u.1 }
+    go false m =
+        let u = unnamed s p w v m in
+        record {
+          answered = subst (λ (o : Outcome × Bool). MatchResult r (IsTried o.0 o.1) (λ refused. o.0.number ≡ number_of refused)) (ap₂ (λ (o : Outcome) (f : Bool). (o, f)) u.0 u.1) g.answered;
+          left = rw u.0 at g.left;
+        }
 
 -- ---- a turn
 
 -- The replay that is wanted is what is left of the log, from the pose that n steps led to.
-pub record Posed (sheet : Sheet) (ss : List Step) (turned : Bool) (shape : Shape) (x y : List Float) (n : ℕ) : Type 0 where
+pub record Posed (sheet : Sheet) (ss : List (Option Step)) (turned : Bool) (shape : Shape) (x y : List Float) (n : ℕ) : Type 0 where
   pub small : shape.dims ≤ 9
   pub wide : length x ≡ 512
   pub wide_other : length y ≡ 512
@@ -87,19 +89,19 @@ pub record Posed (sheet : Sheet) (ss : List Step) (turned : Bool) (shape : Shape
   pub same : carried_out sheet ss (sheet_value sheet 0) 0 ≡ carried_out sheet (drop n ss) (held_value shape (turn turned x y)) n
 
 -- The next step was tried, from the array that has its turn to the other.
-pub record Turned (sheet : Sheet) (ss : List Step) (turned : Bool) (shape : Shape) (x y : List Float) (n : ℕ) (r : Tried) (x' y' : List Float) : Type 0 where
+pub record Turned (sheet : Sheet) (ss : List (Option Step)) (turned : Bool) (shape : Shape) (x y : List Float) (n : ℕ) (r : Result Tried Refusal) (x' y' : List Float) : Type 0 where
   pub posed : Posed sheet ss turned shape x y n
   pub next : n < length ss
   pub step : Step
-  pub there : get_or ss n Unknown ≡ step
-  pub meant : IsValue (sheet_value sheet (named step))
-  pub tried : Tries step (held_value shape (turn turned x y)) (sheet_value sheet (named step)) r (turn turned y x) (turn turned y' x')
+  pub there : get_or ss n None ≡ Some step
+  pub meant : IsValue (sheet_value sheet (named (Some step)))
+  pub tried : Tries step (held_value shape (turn turned x y)) (sheet_value sheet (named (Some step))) r (turn turned y x) (turn turned y' x')
   pub kept : turn turned x' y' ≡ turn turned x y
   pub wide : length x' ≡ 512
   pub wide_other : length y' ≡ 512
 
 -- It ends here.
-pub record Ended (sheet : Sheet) (ss : List Step) (turned : Bool) (shape : Shape) (x y : List Float) (n stopped : ℕ) : Type 0 where
+pub record Ended (sheet : Sheet) (ss : List (Option Step)) (turned : Bool) (shape : Shape) (x y : List Float) (n stopped : ℕ) : Type 0 where
   pub small : shape.dims ≤ 9
   pub wide : length x ≡ 512
   pub wide_other : length y ≡ 512
@@ -117,15 +119,17 @@ turn_not true x y = refl
 turn_not false x y = refl
 
 -- at the start it is value 0
-pub begins : {sheet : Sheet} {ss : List Step} {shape : Shape} {x y : List Float} → shape.dims ≤ 9 → length x ≡ 512 → length y ≡ 512 → held_value shape x ≡ sheet_value sheet 0 → Posed sheet ss false shape x y 0
+pub begins : {sheet : Sheet} {ss : List (Option Step)} {shape : Shape} {x y : List Float} → shape.dims ≤ 9 → length x ≡ 512 → length y ≡ 512 → held_value shape x ≡ sheet_value sheet 0 → Posed sheet ss false shape x y 0
 begins h l m v = record { small = h; wide = l; wide_other = m; few = omega arith; same = rw v }
 
-module _ {sheet : Sheet} {ss : List Step} {turned : Bool} {shape : Shape} {x y : List Float} {n : ℕ} where
+module _ {sheet : Sheet} {ss : List (Option Step)} {turned : Bool} {shape : Shape} {x y : List Float} {n : ℕ} where
   -- the answer, and the output
-  pub ended : {stopped : ℕ} {r : Replay} {before out after : List Float} → Ended sheet ss turned shape x y n stopped → out ≡ before
-      → (r ≡ record { number = 0; shape = shape; steps = n; stopped = stopped }) × (after ≡ laid (take (2 ^ shape.dims) (turn turned x y)) out)
-      → Replays (carried_out sheet ss (sheet_value sheet 0) 0) r before after
-  ended t e f = rw (t.same, ← e) (record { answered = f.0; left = f.1 })
+  pub ended : {stopped : ℕ} {o : Option Refusal} {r : Replay} {before out after : List Float} → IsStop stopped o → Ended sheet ss turned shape x y n stopped → out ≡ before
+      → (r ≡ record { shape = shape; steps = n; stopped = o }) × (after ≡ laid (take (2 ^ shape.dims) (turn turned x y)) out)
+      → IsReplay (carried_out sheet ss (sheet_value sheet 0) 0) r × (after ≡ laid (carried_out sheet ss (sheet_value sheet 0) 0).pose.coefs before)
+  ended {stopped} i t e f =
+      let whole : Replayed = record { pose = held_value shape (turn turned x y); steps = n; stopped = stopped; halted = t.halted } in
+      rw (t.same, ← e) (subst (IsReplay whole) (sym f.0) (record { done = refl; shape = refl; steps = refl; stopped = i }), f.1)
 
   -- what the end of a replay asks for
   pub ended_wide : {stopped : ℕ} (out : List Float) → Ended sheet ss turned shape x y n stopped → 512 ≤ length out
@@ -142,75 +146,73 @@ module _ {sheet : Sheet} {ss : List Step} {turned : Bool} {shape : Shape} {x y :
         wide = t.wide;
         wide_other = t.wide_other;
         halted = false;
-        same = t.same ∙ ap (λ (rest : List Step). carried_out sheet rest (held_value shape (turn turned x y)) n) (ap (λ (k : ℕ). drop k ss) m ∙ drop-length ss);
+        same = t.same ∙ ap (λ (rest : List (Option Step)). carried_out sheet rest (held_value shape (turn turned x y)) n) (ap (λ (k : ℕ). drop k ss) m ∙ drop-length ss);
       }
 
-  module _ {r : Tried} {x' y' : List Float} (t : Turned sheet ss turned shape x y n r x' y') where
-    abbrev s : Step
-    s = t.step
+  module _ {r : Result Tried Refusal} {x' y' : List Float} (t : Turned sheet ss turned shape x y n r x' y') where
+    abbrev s : Option Step
+    s = Some t.step
 
     abbrev pose : Outcome
     pose = held_value shape (turn turned x y)
 
+    abbrev meant : Outcome
+    meant = sheet_value sheet (named s)
+
     abbrev after : Outcome
-    after = stepped s pose (sheet_value sheet (named s))
+    after = stepped s pose meant
 
     begun : carried_out sheet ss (sheet_value sheet 0) 0 ≡ carried_out sheet (s ∷ drop (n + 1) ss) pose n
-    begun = t.posed.same ∙ ap (λ (rest : List Step). carried_out sheet rest pose n) (drop-cons ss n Unknown t.next ∙ rw (t.there, add-one))
-
-    number_is : r.answer.number ≡ after.number
-    number_is = ap (λ (a : Answer). a.number) t.tried.gives.answered
+    begun = t.posed.same ∙ ap (λ (rest : List (Option Step)). carried_out sheet rest pose n) (drop-cons ss n None t.next ∙ rw (t.there, add-one))
 
     -- stopped with a number, the pose being at the front of xs
     abbrev stop : List Float → ℕ → Replayed
     stop xs j = record { pose = held_value shape xs; steps = n; stopped = j; halted = false }
 
     -- the step is refused: the pose stays
-    pub refused_ends : (r.answer.number ≡ 0 → ⊥) → Ended sheet ss turned shape x' y' n r.answer.number
-    refused_ends z =
+    pub refused_ends : (e : Refusal) → r ≡ Err e → Ended sheet ss turned shape x' y' n (number_of e)
+    refused_ends e q =
+        let m : after.number ≡ number_of e = MatchResult-at_err (IsTried after (fires s pose meant)) (λ refused. after.number ≡ number_of refused) e q t.tried.answered in
         record {
           small = t.posed.small;
           wide = t.wide;
           wide_other = t.wide_other;
           halted = false;
-          same = begun ∙ step_stops sheet s (drop (n + 1) ss) pose n (λ d. z (number_is ∙ d)) ∙ ap₂ stop (sym t.kept) (sym number_is);
+          same = begun ∙ step_stops sheet s (drop (n + 1) ss) pose n (λ d. refuses e (sym m ∙ d)) ∙ ap₂ stop (sym t.kept) m;
         }
 
-    module _ (d : r.answer.number ≡ 0) where
-      done : after.number ≡ 0
-      done = sym number_is ∙ d
+    module _ (w : Tried) (q : r ≡ Ok w) where
+      told : IsTried after (fires s pose meant) w
+      told = MatchResult-at_ok (IsTried after (fires s pose meant)) (λ refused. after.number ≡ number_of refused) w q t.tried.answered
 
       pose_is : IsValue pose
       pose_is = held_value_lem shape (turn turned x y) t.posed.small (turn_wide turned x y t.posed.wide t.posed.wide_other)
 
       after_is : IsValue after
-      after_is = stepped_value s pose (sheet_value sheet (named s)) pose_is t.meant done
-
-      shape_is : r.answer.shape ≡ after.shape
-      shape_is = ap (λ (a : Answer). a.shape) t.tried.gives.answered
+      after_is = stepped_value s pose meant pose_is t.meant told.done
 
       -- the pose that it leads to is in the other array
-      after_held : held_value r.answer.shape (turn (not turned) x' y') ≡ after
-      after_held = laid_held after r.answer.shape (turn turned y x) (turn (not turned) x' y') after_is shape_is (turn_not turned x' y' ∙ t.tried.gives.left)
+      after_held : held_value w.shape (turn (not turned) x' y') ≡ after
+      after_held = laid_held after w.shape (turn turned y x) (turn (not turned) x' y') after_is told.shape (turn_not turned x' y' ∙ t.tried.left)
 
       -- it halts
-      pub halted_ends : r.halts ≡ true → Ended sheet ss (not turned) r.answer.shape x' y' (n + 1) 0
+      pub halted_ends : w.halts ≡ true → Ended sheet ss (not turned) w.shape x' y' (n + 1) 0
       halted_ends z =
           record {
-            small = rw shape_is after_is.small;
+            small = rw told.shape after_is.small;
             wide = t.wide;
             wide_other = t.wide_other;
             halted = true;
-            same = begun ∙ step_halts sheet s (drop (n + 1) ss) pose n done (sym t.tried.fired ∙ z) ∙ rw after_held;
+            same = begun ∙ step_halts sheet s (drop (n + 1) ss) pose n told.done (sym told.halts ∙ z) ∙ rw after_held;
           }
 
       -- it is carried out
-      pub goes_on : r.halts ≡ false → Posed sheet ss (not turned) r.answer.shape x' y' (n + 1)
+      pub goes_on : w.halts ≡ false → Posed sheet ss (not turned) w.shape x' y' (n + 1)
       goes_on z =
           record {
-            small = rw shape_is after_is.small;
+            small = rw told.shape after_is.small;
             wide = t.wide;
             wide_other = t.wide_other;
             few = omega (arith, t.next);
-            same = begun ∙ step_goes_on sheet s (drop (n + 1) ss) pose n done (sym t.tried.fired ∙ z) ∙ rw after_held;
+            same = begun ∙ step_goes_on sheet s (drop (n + 1) ss) pose n told.done (sym told.halts ∙ z) ∙ rw after_held;
           }

@@ -8,23 +8,23 @@ use borrow.Author.Tests.{le-ltb, ltb-false, eq-eqb}
 use lib.Dec.{ltb}
 use lib.Ieee.{Float}
 use lib.ListN.{length}
+use Rattle.std.specs.Prelude.{Option, None, Some, is_some}
 use Rattle.masks.specs.declared.shape.Shape.{Shape}
 use Rattle.masks.specs.Outcome.{Test, Outcome, refusal, too_many, wrong_count, no_room, result_tests, refused_value}
 use Rattle.masks.specs.Shape.{set_dims, conformed_shape}
 use Rattle.masks.proofs.OrderLaws.{blades_le}
 use Rattle.masks.proofs.OutcomeLaws.{refused_first, refused_later, unless_done, unless_number}
 use Rattle.masks.proofs.ShapeLaws.{resized_length, set_dims_done, set_dims_taken}
-use Rattle.arithmetic.specs.declared.outcome.YesNo.{YesNo}
 use Rattle.arithmetic.specs.Operators.{result_dims}
 use Rattle.arithmetic.specs.Reverse.{reverse}
-use Rattle.arithmetic.specs.Compare.{compared_tests, refused_yes_no, equals}
+use Rattle.arithmetic.specs.Compare.{YesNo, compared_tests, refused_yes_no, equals}
 use Rattle.arithmetic.proofs.KeptLaws.{Accepted, kept_value}
 use Rattle.arithmetic.proofs.OperatorsLaws.{operator_passed, multiply_shape, multiply_number, multiply_length}
 use Rattle.arithmetic.proofs.ReverseLaws.{reversed_length}
 use Rattle.replay.specs.declared.log.Step.{Step}
-use Rattle.replay.specs.declared.log.Step.TheVariants.{Right, Left, Reverse, Dims, Halt, Unknown}
+use Rattle.replay.specs.declared.log.Step.TheVariants.{Right, Left, Reverse, Dims, Halt}
+use Rattle.replay.specs.Log.{names}
 use Rattle.replay.specs.Step.{pose_times, is_equal, stepped, fires}
-use Rattle.replay.specs.inner.Turns.{names}
 
 -- an outcome that is a value
 pub record IsValue (o : Outcome) : Type 0 where
@@ -101,38 +101,37 @@ set_dims_value s m xs e =
     rw (set_dims_done s m xs 512 t) (record { done = refl; small = t.result; counted = resized_length s.dims m xs })
 
 -- halting leaves the pose
-pub halt_stays : (k : ℕ) (p v : Outcome) → IsValue p → IsValue v → stepped (Halt k) p v ≡ p
+pub halt_stays : (k : ℕ) (p v : Outcome) → IsValue p → IsValue v → stepped (Some (Halt k)) p v ≡ p
 unfolding stepped
 halt_stays k p v a b = unless_done refused_value (is_equal p v).number 0 p (sym (equal_done p v a b)) refl
 
 -- ---- steps
 
 -- a step that is not refused gives a value
-pub stepped_value : (s : Step) (p v : Outcome) → IsValue p → IsValue v → (stepped s p v).number ≡ 0 → IsValue (stepped s p v)
+pub stepped_value : (s : Option Step) (p v : Outcome) → IsValue p → IsValue v → (stepped s p v).number ≡ 0 → IsValue (stepped s p v)
 unfolding stepped
-stepped_value (Right k) p v a b e = times_value p v e
-stepped_value (Left k) p v a b e = times_value v p e
-stepped_value Reverse p v a b e = reverse_value p a
-stepped_value (Dims m) p v a b e = set_dims_value p.shape m p.coefs e
-stepped_value (Halt k) p v a b e = subst IsValue (sym (halt_stays k p v a b)) a
-stepped_value Unknown p v a b e = a
+stepped_value (Some (Right k)) p v a b e = times_value p v e
+stepped_value (Some (Left k)) p v a b e = times_value v p e
+stepped_value (Some Reverse) p v a b e = reverse_value p a
+stepped_value (Some (Dims m)) p v a b e = set_dims_value p.shape m p.coefs e
+stepped_value (Some (Halt k)) p v a b e = subst IsValue (sym (halt_stays k p v a b)) a
+stepped_value None p v a b e = a
 
 -- one that is refused is refused with 1
-pub stepped_number : (s : Step) (p v : Outcome) → IsValue p → IsValue v → (stepped s p v).number ≤ 1
+pub stepped_number : (s : Option Step) (p v : Outcome) → IsValue p → IsValue v → (stepped s p v).number ≤ 1
 unfolding stepped
-stepped_number (Right k) p v a b = times_number p v a b
-stepped_number (Left k) p v a b = times_number v p b a
-stepped_number Reverse p v a b = omega (arith, (reverse_value p a).done)
-stepped_number (Dims m) p v a b = set_dims_number p m a
-stepped_number (Halt k) p v a b = omega (arith, ap (λ (o : Outcome). o.number) (halt_stays k p v a b), a.done)
-stepped_number Unknown p v a b = omega (arith, a.done)
+stepped_number (Some (Right k)) p v a b = times_number p v a b
+stepped_number (Some (Left k)) p v a b = times_number v p b a
+stepped_number (Some Reverse) p v a b = omega (arith, (reverse_value p a).done)
+stepped_number (Some (Dims m)) p v a b = set_dims_number p m a
+stepped_number (Some (Halt k)) p v a b = omega (arith, ap (λ (o : Outcome). o.number) (halt_stays k p v a b), a.done)
+stepped_number None p v a b = omega (arith, a.done)
 
 -- a step that names no value does not look at one
-pub unnamed : (s : Step) (p v w : Outcome) → names s ≡ false → (stepped s p v ≡ stepped s p w) × (fires s p v ≡ fires s p w)
+pub unnamed : (s : Step) (p v w : Outcome) → is_some (names s) ≡ false → (stepped (Some s) p v ≡ stepped (Some s) p w) × (fires (Some s) p v ≡ fires (Some s) p w)
 unfolding names stepped fires
 unnamed (Right k) p v w e = absurd (true≢false e)
 unnamed (Left k) p v w e = absurd (true≢false e)
 unnamed Reverse p v w e = (refl, refl)
 unnamed (Dims m) p v w e = (refl, refl)
 unnamed (Halt k) p v w e = absurd (true≢false e)
-unnamed Unknown p v w e = (refl, refl)

@@ -6,6 +6,7 @@ use mathlib.Core.Logic.{◌⊎◌, inl, inr}
 use Prim.Native.Nat.{ℕ, zero, suc, ◌+◌, ◌≤◌, ◌<◌}
 use native.Mathlib.Omega.{arith}
 use lib.ListN.{length}
+use Rattle.std.specs.Prelude.{Option}
 use Rattle.masks.specs.Outcome.{Outcome}
 use Rattle.masks.proofs.ListLaws.{both_true}
 use Rattle.sheets.specs.Format.{Sheet}
@@ -29,7 +30,7 @@ record Sound (o : Replayed) : Type 0 where
 
 -- So it is from any value on, where the steps fit and what they name are values.
 sound : (sheet : Sheet) (count : ℕ) → 0 < count → ((i : ℕ) → i < count → IsValue (sheet_value sheet i))
-    → (ss : List Step) (p : Outcome) (n : ℕ) → all_fit count ss ≡ true → IsValue p → Sound (carried_out sheet ss p n)
+    → (ss : List (Option Step)) (p : Outcome) (n : ℕ) → all_fit count ss ≡ true → IsValue p → Sound (carried_out sheet ss p n)
 unfolding carried_out all_fit
 sound sheet count h values [] p n f a = record { value = a; one = omega arith }
 sound sheet count h values (s ∷ ss) p n f a =

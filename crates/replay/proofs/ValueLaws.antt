@@ -5,17 +5,18 @@ use mathlib.Core.List.{List, [], ◌∷◌, map}
 use Prim.Native.Nat.{ℕ, zero, suc, ◌+◌, ◌*◌, ◌/◌, ◌^◌, ◌≤◌, ◌<◌}
 use native.Mathlib.Omega.{arith}
 use lib.Ieee.{binary64, of_bits}
-use lib.ListN.{length, get_or, take, drop, length-map, get_or-append}
-use lib.Seq.{take_all, take-nil, take-append-le, length-take-le, drop-drop}
+use lib.ListN.{length, get_or, take, drop, length-map}
+use lib.Seq.{take-nil, length-take-le, drop-drop}
 use borrow.Author.Tests.{le-ltb}
 use Rattle.masks.specs.declared.flavor.Flavor.TheVariants.{Vanilla}
 use Rattle.masks.specs.declared.shape.Shape.{Shape}
 use Rattle.masks.specs.Outcome.{refusal, unless, listed, shape_of}
 use Rattle.sheets.specs.Bytes.{from_little_endian, parts, after_section}
-use Rattle.sheets.specs.Format.{Sheet, any_above_nine, blade_total}
+use Rattle.sheets.specs.Format.{Sheet, any_above_nine}
 use Rattle.sheets.specs.Patterns.{converted, patterns_in, numbers_in}
 use Rattle.sheets.specs.Read.{said, is_sheet_bytes}
-use Rattle.sheets.specs.Shapes.{blank_shapes, shapes_of}
+use Rattle.sheets.specs.declared.shapes.Shapes.{Shapes}
+use Rattle.sheets.specs.Shapes.{shapes_of, listed_shapes}
 use Rattle.sheets.specs.Values.{start_of}
 use Rattle.sheets.proofs.BytesLaws.{parts_length, parts_take, parts_inside}
 use Rattle.sheets.proofs.FormatLaws.{Within, sheet_within, sheet_bytes-length, dims_at}
@@ -34,14 +35,6 @@ shape_at ss i = get_or ss i (shape_of 0 Vanilla)
 pub value_shape : (sheet : Sheet) (i : ℕ) → (sheet_value sheet i).shape ≡ shape_at sheet.shapes i
 unfolding sheet_value
 value_shape sheet i = refl
-
--- ---- the shapes of a record
-
-pub held_at : (ss : List Shape) (i : ℕ) → length ss ≤ 64 → i < length ss → shape_at (shapes_of ss).held i ≡ shape_at ss i
-held_at ss i h l = rw (take_all 64 ss h) (get_or-append ss (drop (length ss) blank_shapes) (shape_of 0 Vanilla) i l)
-
-pub held_start : (ss : List Shape) (i : ℕ) → length ss ≤ 64 → i ≤ length ss → start_of (shapes_of ss).held i ≡ start_of ss i
-held_start ss i h l = rw (take_all 64 ss h) (ap blade_total (take-append-le i ss (drop (length ss) blank_shapes) l))
 
 -- ---- numbers in bytes
 
@@ -95,8 +88,12 @@ module _ (b : List ℕ) (e : is_sheet_bytes b ≡ true) where
   pub sheet_few : length (said b).shapes ≤ 64
   sheet_few = limits_held.few
 
-  pub held_small : any_above_nine (take (length (said b).shapes) (shapes_of (said b).shapes).held) ≡ false
-  held_small = ap any_above_nine (listed-shapes_of (said b).shapes sheet_few) ∙ limits_held.small
+  -- so its record lists all its shapes
+  pub all_listed : (shapes : Shapes) (listed : List Shape) → shapes ≡ shapes_of (said b).shapes → listed ≡ listed_shapes shapes → listed ≡ (said b).shapes
+  all_listed shapes listed q l = l ∙ ap listed_shapes q ∙ listed-shapes_of (said b).shapes sheet_few
+
+  pub none_above : any_above_nine (said b).shapes ≡ false
+  none_above = limits_held.small
 
   module _ (i : ℕ) (h : i < length (said b).shapes) where
     pub shape_small : (shape_at (said b).shapes i).dims ≤ 9

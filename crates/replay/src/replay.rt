@@ -5,15 +5,15 @@ ghost use Rattle.sheets.specs.Read.{said, is_sheet_bytes};
 ghost use Rattle.sheets.specs.Shapes.{shapes_of};
 ghost use Rattle.replay.specs.Log.{steps_of, log_tests};
 ghost use Rattle.replay.specs.Step.{sheet_value};
-ghost use Rattle.replay.specs.Replay.{carried_out, replay, Replays};
+ghost use Rattle.replay.specs.Replay.{carried_out, replay, IsReplay, Replays};
 ghost use Rattle.replay.specs.inner.Turns.{turn};
 
-use super::log::{BAD_LOG, log_refusal, named, step_of};
-use super::outcome::{Replay, refused_replay};
+use super::log::{log_refusal, step_of};
+use super::outcome::Replay;
 use super::step::take_turn;
 use super::value::{put_named, put_starts, put_value};
-use masks::order::blade_count;
-use masks::outcome::{DONE, MALFORMED, NO_ROOM};
+use masks::order::blades_or_none;
+use masks::outcome::Refusal;
 use masks::shape::Shape;
 use sheets::read::check;
 use sheets::shapes::Shapes;
@@ -26,11 +26,7 @@ fn put_first(n: usize, a: &[f64], out: &mut [f64])
     requires { (n ≤ length a.now) × (n ≤ length out.old) }
     ensures { out.new ≡ laid (take n a.now) out.old }
 {
-    let mut i: usize = 0;
-    while i < n {
-        out[i] = a[i];
-        i += 1;
-    }
+    out[..n].copy_from_slice(&a[..n]);
 }
 
 // The end of a replay: the pose, from the array that has its turn.
@@ -38,22 +34,21 @@ fn finish(
     turned: bool,
     shape: Shape,
     steps: usize,
-    stopped: u8,
+    stopped: Option<Refusal>,
     x: &[f64],
     y: &[f64],
     out: &mut [f64],
 ) -> Replay
     requires { (shape.dims ≤ 9) × (length x.now ≡ 512) × (length y.now ≡ 512) × (512 ≤ length out.old) }
-    ensures { (result ≡ record { number = 0; shape = shape; steps = steps; stopped = stopped }) × (out.new ≡ laid (take (2 ^ shape.dims) (turn turned x.now y.now)) out.old) }
+    ensures { (result ≡ record { shape = shape; steps = steps; stopped = stopped }) × (out.new ≡ laid (take (2 ^ shape.dims) (turn turned x.now y.now)) out.old) }
 {
-    let n = blade_count(shape.dims).count;
+    let n = blades_or_none(shape.dims);
     if turned {
         put_first(n, y, out);
     } else {
         put_first(n, x, out);
     }
     Replay {
-        number: DONE,
         shape,
         steps,
         stopped,
@@ -61,57 +56,50 @@ fn finish(
 }
 
 // The steps of a log, from value 0 on; the pose is in two arrays that take turns.
-fn run(sheet: &[u8], shapes: Shapes, log: &[u8], out: &mut [f64]) -> Replay
-    requires { (is_sheet_bytes sheet.now ≡ true) × (shapes ≡ shapes_of (said sheet.now).shapes) × (refusal (log_tests (length (said sheet.now).shapes) (steps_of log.now)) ≡ 0) × (512 ≤ length out.old) }
-    ensures { Replays (carried_out (said sheet.now) (steps_of log.now) (sheet_value (said sheet.now) 0) 0) result out.old out.new }
+fn run(sheet: &[u8], shapes: &Shapes, log: &[u8], out: &mut [f64]) -> Replay
+    requires { (is_sheet_bytes sheet.now ≡ true) × (shapes.now ≡ shapes_of (said sheet.now).shapes) × (refusal (log_tests (length (said sheet.now).shapes) (steps_of log.now)) ≡ 0) × (512 ≤ length out.old) }
+    ensures { IsReplay (carried_out (said sheet.now) (steps_of log.now) (sheet_value (said sheet.now) 0) 0) result × (out.new ≡ laid (carried_out (said sheet.now) (steps_of log.now) (sheet_value (said sheet.now) 0) 0).pose.coefs out.old) }
 {
     let mut x = [0.0; 512];
     let mut y = [0.0; 512];
     let mut held = [0.0; 512];
-    let mut starts: [usize; 64] = [0; 64];
-    let count = shapes.count;
-    put_starts(shapes, count, &mut starts);
-    let mut shape = shapes.held[0];
-    put_value(sheet, count, 0, blade_count(shape.dims).count, &mut x);
+    let mut starts = [0; 64];
+    let listed = shapes.listed();
+    let count = listed.len();
+    put_starts(listed, &mut starts);
+    let mut shape = listed[0];
+    put_value(sheet, count, 0, blades_or_none(shape.dims), &mut x);
     let mut turned = false;
-    let mut steps: usize = 0;
-    while steps < log.len() / 2 {
-        let step = step_of(log[2 * steps], log[2 * steps + 1]);
-        let k = named(step);
-        let other = shapes.held[k];
+    let (pairs, _) = log.as_chunks::<2>();
+    for (steps, pair) in pairs.iter().enumerate() {
+        let step = step_of(pair[0], pair[1]).unwrap();
+        let k = usize::from(step.names().unwrap_or(0));
+        let other = listed[k];
         put_named(step, other, sheet, count, starts[k], &mut held);
-        let tried = take_turn(turned, step, shape, other, &held, &mut x, &mut y);
-        let answer = tried.answer;
-        if answer.number != DONE {
-            return finish(turned, shape, steps, answer.number, &x, &y, out);
-        }
-        shape = answer.shape;
+        let tried = match take_turn(turned, step, shape, other, &held, &mut x, &mut y) {
+            Ok(tried) => tried,
+            Err(refusal) => return finish(turned, shape, steps, Some(refusal), &x, &y, out),
+        };
+        shape = tried.shape;
         turned = !turned;
-        steps += 1;
         if tried.halts {
-            return finish(turned, shape, steps, DONE, &x, &y, out);
+            return finish(turned, shape, steps + 1, None, &x, &y, out);
         }
     }
-    finish(turned, shape, steps, DONE, &x, &y, out)
+    finish(turned, shape, pairs.len(), None, &x, &y, out)
 }
 
 // The pose that a log leads to over the values of a sheet, from the front of the output.
-pub fn replay(form: u8, sheet: &[u8], log: &[u8], out: &mut [f64]) -> Replay
+pub fn replay(form: u8, sheet: &[u8], log: &[u8], out: &mut [f64]) -> Result<Replay, Refusal>
     ensures { Replays (replay form sheet.now log.now (length out.old)) result out.old out.new }
 {
     if form != FIRST_FORM {
-        return refused_replay(MALFORMED);
+        return Err(Refusal::Malformed);
     }
-    let read = check(sheet);
-    if read.number != DONE {
-        return refused_replay(MALFORMED);
-    }
-    let shapes = read.shapes;
-    if log_refusal(log, shapes.count) != DONE {
-        return refused_replay(BAD_LOG);
-    }
+    let shapes = check(sheet)?.shapes;
+    log_refusal(log, shapes.count)?;
     if out.len() < 512 {
-        return refused_replay(NO_ROOM);
+        return Err(Refusal::NoRoom);
     }
-    run(sheet, shapes, log, out)
+    Ok(run(sheet, &shapes, log, out))
 }

@@ -1,55 +1,60 @@
 // One step: what the named operation does to a pose.
-ghost use Rattle.std.specs.Prelude.{◌≡◌, false, ◌^◌, ◌≤◌, length};
-ghost use Rattle.masks.specs.Outcome.{value, Gives};
-ghost use Rattle.replay.specs.Step.{is_equal};
+ghost use Rattle.std.specs.Prelude.{◌≡◌, false, ℕ, ◌^◌, ◌≤◌, length, Ok, Err, MatchResult};
+ghost use Rattle.masks.specs.Outcome.{value};
+ghost use Rattle.replay.specs.declared.log.Step.TheVariants.{Halt};
 ghost use Rattle.replay.specs.inner.Turns.{held_value, Tries, turn};
 
 use super::log::Step;
 use arithmetic::compare::eq;
 use arithmetic::operators::mul;
 use arithmetic::reverse::reverse;
-use masks::order::blade_count;
-use masks::outcome::Answer;
+use masks::order::blades_or_none;
+use masks::outcome::Refusal;
 use masks::shape::Shape;
 
-// A step that was tried: what it answers, and whether it is a halting step that fires.
+// A step that was tried: the shape of the pose after it, and whether it is a halting step that fires.
 #[derive(Clone, Copy)]
 pub struct Tried {
-    pub answer: Answer,
+    pub shape: Shape,
     pub halts: bool,
 }
 
-fn goes_on(answer: Answer) -> Tried
-    ensures { result ≡ record { answer = answer; halts = false } }
+// What a step answers that does not halt.
+fn goes_on(answer: Result<Shape, Refusal>) -> Result<Tried, Refusal>
+    ensures { MatchResult answer (λ s. result ≡ Ok (record { shape = s; halts = false })) (λ refused. result ≡ Err refused) }
 {
-    Tried {
-        answer,
+    answer.map(|shape| Tried {
+        shape,
         halts: false,
-    }
-}
-
-// The pose as it is.
-fn keep(shape: Shape, a: &[f64], out: &mut [f64]) -> Answer
-    requires { (shape.dims ≤ 9) × (length a.now ≡ 2 ^ shape.dims) × (length out.old ≡ 512) }
-    ensures { Gives (value shape a.now) result out.old out.new }
-{
-    shape.set_dims(shape.dims, a, out)
+    })
 }
 
 // The pose as it is, and whether it is equal to a value.
-fn halt_if_equal(shape: Shape, other: Shape, a: &[f64], b: &[f64], out: &mut [f64]) -> Tried
-    requires { (shape.dims ≤ 9) × (length a.now ≡ 2 ^ shape.dims) × (length out.old ≡ 512) }
-    ensures { Gives (value shape a.now) result.answer out.old out.new × (result.halts ≡ (is_equal (value shape a.now) (value other b.now)).yes) }
+fn halt_if_equal(
+    shape: Shape,
+    other: Shape,
+    a: &[f64],
+    b: &[f64],
+    out: &mut [f64],
+) -> Result<Tried, Refusal>
+    requires { length a.now ≤ length out.old }
+    ensures { (k : ℕ) → Tries (Halt k) (value shape a.now) (value other b.now) result out.old out.new }
 {
-    let answer = keep(shape, a, out);
-    let equal = eq(shape, other, a, b);
-    let halts = equal.yes;
-    Tried { answer, halts }
+    let halts = eq(shape, other, a, b)?;
+    out[..a.len()].copy_from_slice(a);
+    Ok(Tried { shape, halts })
 }
 
 // A step, from a pose and the value that it names to the front of the output.
-fn try_step(step: Step, shape: Shape, other: Shape, a: &[f64], b: &[f64], out: &mut [f64]) -> Tried
-    requires { (shape.dims ≤ 9) × (other.dims ≤ 9) × (length a.now ≡ 2 ^ shape.dims) × (length b.now ≡ 2 ^ other.dims) × (length out.old ≡ 512) }
+fn try_step(
+    step: Step,
+    shape: Shape,
+    other: Shape,
+    a: &[f64],
+    b: &[f64],
+    out: &mut [f64],
+) -> Result<Tried, Refusal>
+    requires { (shape.dims ≤ 9) × (length a.now ≡ 2 ^ shape.dims) × (length out.old ≡ 512) }
     ensures { Tries step (value shape a.now) (value other b.now) result out.old out.new }
 {
     match step {
@@ -58,7 +63,6 @@ fn try_step(step: Step, shape: Shape, other: Shape, a: &[f64], b: &[f64], out: &
         Step::Reverse => goes_on(reverse(shape, a, out)),
         Step::Dims(m) => goes_on(shape.set_dims(m, a, out)),
         Step::Halt(_) => halt_if_equal(shape, other, a, b, out),
-        Step::Unknown => goes_on(keep(shape, a, out)),
     }
 }
 
@@ -71,12 +75,12 @@ pub(crate) fn take_turn(
     named: &[f64],
     x: &mut [f64],
     y: &mut [f64],
-) -> Tried
+) -> Result<Tried, Refusal>
     requires { (shape.dims ≤ 9) × (other.dims ≤ 9) × (length named.now ≡ 512) × (length x.old ≡ 512) × (length y.old ≡ 512) }
     ensures { Tries step (held_value shape (turn turned x.old y.old)) (held_value other named.now) result (turn turned y.old x.old) (turn turned y.new x.new) × (turn turned x.new y.new ≡ turn turned x.old y.old) }
 {
-    let n = blade_count(shape.dims).count;
-    let m = blade_count(other.dims).count;
+    let n = blades_or_none(shape.dims);
+    let m = blades_or_none(other.dims);
     if turned {
         return try_step(step, shape, other, &y[0..n], &named[0..m], x);
     }

@@ -1,5 +1,5 @@
 -- Laws of a sheet's bytes and limits, by the list of shapes, or test by test. Assumes nothing.
-use mathlib.Core.Path.{◌≡◌, refl, ◌∙◌}
+use mathlib.Core.Path.{◌≡◌, refl, ap, ◌∙◌}
 use mathlib.Core.Bool.{Bool, true, false, ◌||◌, true≢false, or_assoc, or-true}
 use mathlib.Core.List.{List, [], ◌∷◌, ◌++◌}
 use Prim.Native.Nat.{ℕ, zero, suc, ◌+◌, ◌*◌, ◌≤◌, ◌<◌}
@@ -10,6 +10,7 @@ use lib.Dec.{ltb}
 use lib.ListN.{length, get_or, take, length-append}
 use lib.Seq.{take-suc, length-take-le}
 use borrow.Author.Tests.{lt-ltb, le-ltb, ltb-false, eqb-true, eq-eqb, not-false}
+use Rattle.std.specs.List.{list_any}
 use Rattle.masks.specs.declared.flavor.Flavor.TheVariants.{Vanilla}
 use Rattle.masks.specs.declared.shape.Shape.{Shape}
 use Rattle.masks.specs.Outcome.{shape_of, refusal}
@@ -51,6 +52,12 @@ same_refl [] = refl
 same_refl (x ∷ xs) = rw (eq-eqb x x refl) (same_refl xs)
 
 -- ---- limits
+
+-- the test of the library's `any`
+pub above_any : (ss : List Shape) → list_any (λ s. ltb 9 s.dims) ss ≡ any_above_nine ss
+unfolding any_above_nine
+above_any [] = refl
+above_any (s ∷ ss) = ap (λ (b : Bool). ltb 9 s.dims || b) (above_any ss)
 
 pub above_append : (xs ys : List Shape) → any_above_nine (xs ++ ys) ≡ any_above_nine xs || any_above_nine ys
 unfolding any_above_nine

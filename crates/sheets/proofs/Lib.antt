@@ -1,5 +1,6 @@
 -- The laws that the proofs of `sheets`, and of the crates above it, cite.
 pub mod BytesLaws
+pub mod ItemsLaws
 pub mod FormatLaws
 pub mod ShapesLaws
 pub mod ReadLaws

@@ -1,5 +1,5 @@
--- Patterns to numbers and back, by the library's laws of a float's bits, and for lists item by item; and what the loop that converts a list has written. Assumes nothing.
-use mathlib.Core.Path.{◌≡◌, refl, sym, ap, ◌∙◌}
+-- Patterns to numbers and back, by the library's laws of a float's bits, and for lists item by item; and what a call that converts a list writes. Assumes nothing.
+use mathlib.Core.Path.{◌≡◌, refl, sym, ap, ◌∙◌, subst}
 use mathlib.Core.Bool.{not}
 use mathlib.Core.List.{List, [], ◌∷◌, map}
 use Prim.Native.Nat.{ℕ, suc, ◌+◌, ◌*◌, ◌/◌, ◌%◌, ◌^◌, ◌≤◌, ◌<◌, suc-le-suc}
@@ -10,12 +10,16 @@ use lib.Dec.{T}
 use lib.Ieee.{Float, nan, inf, fin, binary64, fits, is_nan, nan_bits, of_bits, to_bits}
 use lib.Ieee.Bits.{of_bits-to_bits, to_bits-of_bits, nan_bits_is}
 use lib.ListN.{length, get_or, set, take, drop, length-map}
-use Rattle.masks.specs.Outcome.{refusal, unless, Writes}
-use Rattle.masks.proofs.ListLaws.{get_d_map, front, front_length, front_step, front_all}
+use Rattle.std.specs.Prelude.{Ok, Err, Result}
+use Rattle.std.specs.Simd.{first_chunks}
+use Rattle.masks.specs.declared.outcome.Refusal.{Refusal}
+use Rattle.masks.specs.declared.outcome.Refusal.TheVariants.{WrongCount, NoRoom}
+use Rattle.masks.specs.Outcome.{refusal, unless, laid, Writes}
+use Rattle.masks.proofs.ListLaws.{get_d_map}
 use Rattle.masks.proofs.OutcomeLaws.{writes_refused, writes_done}
 use Rattle.sheets.specs.Bytes.{from_little_endian, parts}
 use Rattle.sheets.specs.Patterns.{converted, numbers_of, patterns_in, numbers_in}
-use Rattle.sheets.proofs.BytesLaws.{parts_length, get_d-parts}
+use Rattle.sheets.proofs.BytesLaws.{parts_length, get_d-parts, chunks_are}
 
 -- a pattern that is no NaN's comes back
 pub pattern_back : (x : ℕ) → x < 2 ^ 64 → T (not (nan_bits binary64 x)) → to_bits binary64 (of_bits binary64 x) ≡ x
@@ -30,7 +34,7 @@ pub nan_pattern : to_bits binary64 nan ≡ 9221120237041090560
 unfolding to_bits
 nan_pattern = refl
 
-is_nan_lem : (v : Float) → T (is_nan v) → v ≡ nan
+pub is_nan_lem : (v : Float) → T (is_nan v) → v ≡ nan
 unfolding is_nan
 is_nan_lem nan t = refl
 is_nan_lem (inf s) t = absurd t
@@ -52,30 +56,16 @@ patterns_back xs h = map_back (of_bits binary64) (to_bits binary64) 0 xs (λ i l
 pub numbers_back : (xs : List Float) → ((i : ℕ) → i < length xs → T (fits binary64 (get_or xs i nan))) → map (of_bits binary64) (map (to_bits binary64) xs) ≡ xs
 numbers_back xs h = map_back (to_bits binary64) (of_bits binary64) nan xs (λ i l. number_back (get_or xs i nan) (h i l))
 
--- ---- a loop that converts each item of a list by f
+-- ---- what f makes of each item of a list
 
 module _ {A B : Type 0} (f : A → B) (xs : List A) (out : List B) where
-  -- the output once the first i are written
-  abbrev pub converted_to : ℕ → List B
-  converted_to i = front i (map f xs) out
-
-  pub converted_refused : length out < length xs → Writes (converted f xs (length out)) (record { number = 3; count = 0 }) out out
+  pub converted_refused : length out < length xs → Writes (converted f xs (length out)) (Err NoRoom) out out
   unfolding converted refusal
-  converted_refused h = writes_refused _ 3 _ _ out (rw (lt-ltb _ _ h)) (λ q. omega arith) refl
+  converted_refused h = writes_refused _ NoRoom _ out (rw (lt-ltb _ _ h))
 
-  module _ (room : length xs ≤ length out) (i : ℕ) (now : List B) (e : now ≡ converted_to i) where
-    pub converted_length : i ≤ length xs → length now ≡ length out
-    converted_length h = ap length e ∙ front_length i (map f xs) out (omega (arith, length-map xs f)) (omega arith)
-
-    -- the next one written
-    pub converted_step : (d : A) (y : B) → i < length xs → y ≡ f (get_or xs i d) → set now i y ≡ converted_to (i + 1)
-    converted_step d y h q =
-        rw e (front_step i (map f xs) y out y (q ∙ sym (get_d_map f xs i d y h)) (omega (arith, length-map xs f)) (omega arith))
-
-    -- all of them written
-    pub converted_done : i ≡ length xs → Writes (converted f xs (length out)) (record { number = 0; count = length xs }) out now
-    unfolding converted refusal
-    converted_done h = writes_done _ 0 _ _ out now (rw (le-ltb _ _ room)) refl (rw (length-map xs f)) (e ∙ front_all i (map f xs) out (omega (arith, length-map xs f)))
+  pub converted_done : (after : List B) → length xs ≤ length out → after ≡ laid (map f xs) out → Writes (converted f xs (length out)) (Ok (length xs)) out after
+  unfolding converted refusal
+  converted_done after h e = writes_done _ _ _ out after (rw (le-ltb _ _ h)) refl (sym (length-map xs f)) e
 
 -- ---- patterns that are bytes
 
@@ -86,10 +76,25 @@ pub pattern_in : (b : List ℕ) (i : ℕ) → i < length b / 8 → get_or (patte
 pattern_in b i h = get_d_map from_little_endian (parts 8 (length b / 8) b) i [] 0 (omega (arith, parts_length 8 (length b / 8) b)) ∙ ap from_little_endian (get_d-parts 8 (length b / 8) b i h)
 
 -- bytes that are not eight to a pattern are refused; others give the numbers of their patterns
-pub in_refused : (b : List ℕ) (out : List Float) → (length b % 8 ≡ 0 → ⊥) → Writes (numbers_in b (length out)) (record { number = 2; count = 0 }) out out
+pub in_refused : (b : List ℕ) (out : List Float) → (length b % 8 ≡ 0 → ⊥) → Writes (numbers_in b (length out)) (Err WrongCount) out out
 unfolding numbers_in refusal
-in_refused b out h = writes_refused _ 2 _ _ out (rw (ne_eqb (length b % 8) 0 h)) (λ q. omega arith) refl
+in_refused b out h = writes_refused _ WrongCount _ out (rw (ne_eqb (length b % 8) 0 h))
 
 pub in_eights : (b : List ℕ) (room : ℕ) → length b % 8 ≡ 0 → numbers_in b room ≡ numbers_of (patterns_in b) room
 unfolding numbers_in refusal unless
 in_eights b room e = rw (eq-eqb (length b % 8) 0 e)
+
+-- what is made of what is made of each item is made of it
+converted_twice : {A B C : Type 0} (f : B → C) (g : A → B) (xs : List A) (room : ℕ) → converted (λ x. f (g x)) xs room ≡ converted f (map g xs) room
+unfolding converted
+converted_twice f g xs room = rw (length-map xs g, twice xs)
+  where
+    twice : (ys : List _) → map f (map g ys) ≡ map (λ x. f (g x)) ys
+    twice [] = refl
+    twice (y ∷ ys) = ap (λ l. f (g y) ∷ l) (twice ys)
+
+pub in_done : (b : List ℕ) (cs : List (List ℕ)) (out : List Float) (r : Result ℕ Refusal) (after : List Float) → length b % 8 ≡ 0 → cs ≡ first_chunks 8 (length b / 8) b
+    → Writes (converted (λ x. of_bits binary64 (from_little_endian x)) cs (length out)) r out after → Writes (numbers_in b (length out)) r out after
+in_done b cs out r after e q w =
+    let same = ap (λ xs. converted (λ x. of_bits binary64 (from_little_endian x)) xs (length out)) (q ∙ chunks_are 8 (length b / 8) b) ∙ converted_twice (of_bits binary64) from_little_endian (parts 8 (length b / 8) b) (length out) ∙ sym (in_eights b (length out) e) in
+    subst (λ o. Writes o r out after) same w

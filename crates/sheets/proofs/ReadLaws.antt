@@ -1,6 +1,6 @@
 -- What bytes say, and when they are a sheet's: each section of bytes is read back by its count and written back from its parts. Assumes nothing.
 use mathlib.Core.Path.{◌≡◌, refl, sym, ap, ap₂, ◌∙◌}
-use mathlib.Core.Bool.{Bool, true, false, not, ◌&&◌, ◌||◌, false≢true}
+use mathlib.Core.Bool.{Bool, true, false, not, ◌&&◌, ◌||◌}
 use mathlib.Core.List.{List, [], ◌∷◌, ◌++◌, map}
 use Prim.Native.Nat.{ℕ, zero, suc, ◌+◌, ◌*◌, ◌^◌, ◌≤◌, ◌<◌, suc-le-suc}
 use native.Mathlib.Nat.{le_of_suc-le-suc, not-suc-le-zero, zero-lt-suc}
@@ -9,16 +9,20 @@ use lib.Dec.{ltb}
 use lib.ListN.{length, get_or, take, drop, length-map, length-drop, take-append-drop}
 use lib.Seq.{length-take-le, take_all, take-add}
 use borrow.Author.Tests.{lt-ltb, le-ltb, not-true}
+use Rattle.std.specs.Prelude.{Result}
+use Rattle.std.specs.List.{list_all}
 use Rattle.masks.specs.declared.flavor.Flavor.TheVariants.{Vanilla}
+use Rattle.masks.specs.declared.outcome.Refusal.{Refusal}
 use Rattle.masks.specs.declared.shape.Shape.{Shape}
 use Rattle.masks.specs.Outcome.{refusal, unless, shape_of}
 use Rattle.masks.specs.ShapeBytes.{shape_from}
 use Rattle.masks.specs.Text.{same}
 use Rattle.masks.proofs.ListLaws.{get_d_map, both_true}
+use Rattle.masks.proofs.OutcomeLaws.{answer_one}
 use Rattle.sheets.specs.declared.read.SheetRead.{SheetRead}
 use Rattle.sheets.specs.Bytes.{little_endian, from_little_endian, section, parts, count_in, items_in, after_section}
 use Rattle.sheets.specs.Format.{Sheet, shape_in, pattern_bytes, sheet_bytes, blade_total, any_above_nine}
-use Rattle.sheets.specs.Read.{said, is_sheet, is_sheet_bytes, ReadOutcome, refused_sheet, a_sheet, read_sheet, checked, Reads}
+use Rattle.sheets.specs.Read.{said, is_sheet, is_sheet_bytes, ReadOutcome, refused_sheet, a_sheet, read_sheet, checked, read_of, Reads}
 use Rattle.sheets.specs.inner.Checks.{is_shape, are_shapes}
 use Rattle.sheets.proofs.BytesLaws.{AreBytes, little_endian-number, take_bytes, drop_bytes, items_section, parts_length, get_d-parts, all_bytes-parts}
 use Rattle.sheets.proofs.FormatLaws.{five_length, five_back, sheet_bytes-length, same_true, same_refl, dims_at, sheet_within, within_sheet}
@@ -62,8 +66,14 @@ falsely false h = refl
 
 -- ---- one shape after the other
 
+-- the test of the library's `all`
+pub shapes_every : (cs : List (List ℕ)) → list_all is_shape cs ≡ are_shapes cs
+unfolding are_shapes
+shapes_every [] = refl
+shapes_every (c ∷ cs) = ap (λ (b : Bool). is_shape c && b) (shapes_every cs)
+
 -- the shapes pass where each does
-pub shapes_all : (cs : List (List ℕ)) → ((i : ℕ) → i < length cs → is_shape (get_or cs i []) ≡ true) → are_shapes cs ≡ true
+shapes_all : (cs : List (List ℕ)) → ((i : ℕ) → i < length cs → is_shape (get_or cs i []) ≡ true) → are_shapes cs ≡ true
 unfolding are_shapes
 shapes_all [] h = refl
 shapes_all (c ∷ cs) h = ap₂ ◌&&◌ (h 0 (zero-lt-suc (length cs))) (shapes_all cs (λ i l. h (suc i) (suc-le-suc l)))
@@ -73,11 +83,6 @@ unfolding are_shapes
 shapes_at [] i l e = absurd (not-suc-le-zero l)
 shapes_at (c ∷ cs) zero l e = (both_true (is_shape c) (are_shapes cs) e).0
 shapes_at (c ∷ cs) (suc i) l e = shapes_at cs i (le_of_suc-le-suc l) (both_true (is_shape c) (are_shapes cs) e).1
-
--- one that does not pass
-pub shapes_fail : (cs : List (List ℕ)) (i : ℕ) → i < length cs → is_shape (get_or cs i []) ≡ false → are_shapes cs ≡ false
-shapes_fail cs i h e =
-    falsely (are_shapes cs) (λ t. false≢true (sym e ∙ shapes_at cs i h t))
 
 -- shapes that pass have at most nine dimensions
 pub shapes_small : (cs : List (List ℕ)) → are_shapes cs ≡ true → any_above_nine (map shape_from cs) ≡ false
@@ -221,5 +226,5 @@ read_done b room e h = rw (checked_true b e, le-ltb room (length (said b).patter
 
 -- ---- nothing is left open
 
-pub reads_one : {o : ReadOutcome} {r r' : SheetRead} {before after after' : List ℕ} → Reads o r before after → Reads o r' before after' → (r ≡ r') × (after ≡ after')
-reads_one g h = (g.answered ∙ sym h.answered, g.left ∙ sym h.left)
+pub reads_one : {o : ReadOutcome} {r r' : Result SheetRead Refusal} {before after after' : List ℕ} → Reads o r before after → Reads o r' before after' → (r ≡ r') × (after ≡ after')
+reads_one {o = o} g h = (answer_one o.number (read_of o.sheet) _ _ g.answered h.answered, g.left ∙ sym h.left)

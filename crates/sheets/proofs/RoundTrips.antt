@@ -10,7 +10,7 @@ use lib.ListN.{length, get_or, take, drop, length-take}
 use borrow.Author.Tests.{le-ltb, eq-eqb, not-false}
 use Rattle.masks.specs.declared.flavor.Flavor.TheVariants.{Vanilla}
 use Rattle.masks.specs.declared.shape.Shape.{Shape}
-use Rattle.masks.specs.declared.outcome.Count.{Count}
+use Rattle.std.specs.Prelude.{Ok}
 use Rattle.masks.specs.Outcome.{refusal, unless, shape_of, laid, Written, refused_list, listed, Writes}
 use Rattle.masks.specs.ShapeBytes.{shape_bytes, shape_from}
 use Rattle.masks.specs.Text.{same}
@@ -162,22 +162,20 @@ left_behind xs before {n} e l = ap (take n) l ∙ take_laid n xs before (sym e)
 
 -- the bytes are what the writer left in its output, as many as it answered
 
-pub written_then_read : (s : Shapes) (xs : List ℕ) (room : ℕ) {r : Count} {before after : List ℕ} → length s.held ≡ 64 → ArePatterns xs → length xs ≤ room → Writes (write_sheet s xs (length before)) r before after → r.number ≡ 0 → read_sheet (take r.count after) room ≡ a_sheet (sheet_of s xs)
-written_then_read s xs room {r} {before} {after} e h l w n =
+pub written_then_read : (s : Shapes) (xs : List ℕ) (room : ℕ) {n : ℕ} {before after : List ℕ} → length s.held ≡ 64 → ArePatterns xs → length xs ≤ room → Writes (write_sheet s xs (length before)) (Ok n) before after → read_sheet (take n after) room ≡ a_sheet (sheet_of s xs)
+written_then_read s xs room {n} {before} {after} e h l w =
     let o = write_sheet s xs (length before) in
-    let k : o.number ≡ 0 = sym (ap (λ (c : Count). c.number) w.counted) ∙ n in
-    ap (λ (b : List ℕ). read_sheet b room) (left_behind o.items before (ap (λ (c : Count). c.count) w.counted) w.left)
-    ∙ read_of_written s xs (length before) room e h k l
+    ap (λ (b : List ℕ). read_sheet b room) (left_behind o.items before w.counted.1 w.left)
+    ∙ read_of_written s xs (length before) room e h w.counted.0 l
 
 -- the shapes and patterns are what the reader answered and left in its output
-pub read_then_written : (b : List ℕ) (room : ℕ) {r : SheetRead} {before after : List ℕ} → Reads (read_sheet b (length before)) r before after → r.number ≡ 0 → length b ≤ room → write_sheet r.shapes (take r.count after) room ≡ listed b
-read_then_written b room {r} {before} {after} w n l =
+pub read_then_written : (b : List ℕ) (room : ℕ) {r : SheetRead} {before after : List ℕ} → Reads (read_sheet b (length before)) (Ok r) before after → length b ≤ room → write_sheet r.shapes (take r.count after) room ≡ listed b
+read_then_written b room {r} {before} {after} w l =
     let o = read_sheet b (length before) in
-    let k : o.number ≡ 0 = sym (ap (λ (a : SheetRead). a.number) w.answered) ∙ n in
     ap₂ (λ (s : Shapes) (xs : List ℕ). write_sheet s xs room)
-    (ap (λ (a : SheetRead). a.shapes) w.answered)
-    (left_behind o.sheet.patterns before (ap (λ (a : SheetRead). a.count) w.answered) w.left)
-    ∙ written_of_read b (length before) room k l
+    (ap (λ (a : SheetRead). a.shapes) w.answered.1)
+    (left_behind o.sheet.patterns before (ap (λ (a : SheetRead). a.count) w.answered.1) w.left)
+    ∙ written_of_read b (length before) room w.answered.0 l
 
 -- ---- a list of shapes
 

@@ -2,13 +2,15 @@
 use mathlib.Core.Path.{◌≡◌, refl, sym, ap, ap₂, ◌∙◌}
 use mathlib.Core.Logic.{⊎_elim}
 use mathlib.Core.List.{List, [], ◌∷◌, ◌++◌, map, append-nil}
-use Prim.Native.Nat.{ℕ, ◌+◌, ◌*◌, ◌/◌, ◌≤◌, ◌<◌, min}
-use native.Mathlib.Nat.{mul-suc, mul-le-mul_left, mul-div-le, mul-div_cancel_left}
+use Prim.Native.Nat.{ℕ, zero, suc, ◌+◌, ◌*◌, ◌/◌, ◌≤◌, ◌<◌, min}
+use native.Mathlib.Nat.{mul-suc}
 use native.Mathlib.Omega.{arith}
-use lib.ListN.{length, get_or, take, drop, length-map, length-replicate, drop_of_length-le}
-use lib.Seq.{sets, length-take-le, take_all}
+use lib.ListN.{length, get_or, take, drop, length-append, length-map, length-replicate, drop_of_length-le}
+use lib.Seq.{sets, length-take-le, take_all, take-append-le}
 use borrow.Author.Tests.{lt-ltb, le-ltb}
+use Rattle.std.specs.Prelude.{Ok, Err}
 use Rattle.masks.specs.declared.flavor.Flavor.TheVariants.{Vanilla}
+use Rattle.masks.specs.declared.outcome.Refusal.TheVariants.{NoRoom}
 use Rattle.masks.specs.declared.shape.Shape.{Shape}
 use Rattle.masks.specs.Outcome.{refusal, unless, listed, shape_of, laid, Writes}
 use Rattle.masks.specs.ShapeBytes.{shape_bytes, shape_from}
@@ -19,7 +21,7 @@ use Rattle.sheets.specs.declared.shapes.Shapes.{Shapes}
 use Rattle.sheets.specs.Bytes.{all_bytes, parts}
 use Rattle.sheets.specs.Format.{shape_in}
 use Rattle.sheets.specs.Shapes.{blank_shapes, shapes_of, listed_shapes, said_shapes, list_bytes, shape_list}
-use Rattle.sheets.proofs.BytesLaws.{all_bytes-length, parts_length, get_d-parts, parts_take}
+use Rattle.sheets.proofs.BytesLaws.{all_bytes_same, all_bytes-length, parts_length, get_d-parts}
 
 pub blank_length : length blank_shapes ≡ 64
 unfolding blank_shapes
@@ -56,15 +58,24 @@ listed_first ss =
 pub listed-shapes_of : (ss : List Shape) → length ss ≤ 64 → listed_shapes (shapes_of ss) ≡ ss
 listed-shapes_of ss h = listed_first ss ∙ take_all 64 ss h
 
+-- what is made of a list's first 64 items, laid over a blank record
+pub made_shapes : {A : Type 0} (g : A → Shape) (xs : List A) (n : ℕ) (held : List Shape) → n ≡ min (length xs) 64 → held ≡ laid (map g (take n xs)) blank_shapes → record { count = length xs; held = held } ≡ shapes_of (map g xs)
+made_shapes g xs n held e h =
+    ap₂ (λ (count : ℕ) (l : List Shape). record { count = count; held = l }) (sym (length-map xs g))
+    (h ∙ ap (λ (l : List Shape). laid l blank_shapes) (first xs n ∙ most))
+  where
+    first : (ys : List _) (k : ℕ) → map g (take k ys) ≡ take k (map g ys)
+    first ys zero = refl
+    first [] (suc k) = refl
+    first (y ∷ ys) (suc k) = ap (λ l. g y ∷ l) (first ys k)
+
+    most : take n (map g xs) ≡ take 64 (map g xs)
+    most =
+        ⊎_elim (λ (l : length xs < 64). take_all n (map g xs) (omega (arith, length-map xs g)) ∙ sym (take_all 64 (map g xs) (omega (arith, length-map xs g))))
+        (λ (l : 64 ≤ length xs). let q : n ≡ 64 = omega arith in ap (λ (k : ℕ). take k (map g xs)) q)
+        (split (length xs) 64)
+
 -- ---- a list of shapes in bytes, w to a shape
-
--- item i of n fits where all do
-pub item_fits : (w n i room : ℕ) → i < n → w * n ≤ room → w * i + w ≤ room
-item_fits w n i room h l = omega (arith, mul-suc w i, mul-le-mul_left w h)
-
--- item i fits where as many stand in the bytes
-pub said_fits : (w i room : ℕ) → i < room / w → w * i + w ≤ room
-said_fits w i room h = item_fits w (room / w) i room h (mul-div-le room w)
 
 pub said_shapes-length : (w : ℕ) (b : List ℕ) → length (said_shapes w b) ≡ length b / w
 unfolding said_shapes
@@ -78,43 +89,36 @@ said_shapes-at w b i g h =
     ∙ ap shape_from (get_d-parts w (length b / w) b i h)
     ∙ first_five w (drop (w * i) b) g
 
--- n shapes are said by w * n bytes
-pub said_shapes-part : (w : ℕ) (b : List ℕ) (n : ℕ) → 0 < w → w * n ≤ length b → said_shapes w (take (w * n) b) ≡ map shape_from (parts w n b)
-unfolding said_shapes
-said_shapes-part w b n g h =
-    let m : length (take (w * n) b) / w ≡ n = ap (λ (k : ℕ). k / w) (length-take-le (w * n) b h) ∙ mul-div_cancel_left n g in
-    ap (λ (k : ℕ). map shape_from (parts w k (take (w * n) b))) m ∙ ap (map shape_from) (parts_take w n b h)
-
 -- all six bytes of each
 pub six_whole : (ss : List Shape) → all_bytes (shape_in 6) ss ≡ all_bytes shape_bytes ss
-unfolding all_bytes
-six_whole [] = refl
-six_whole (s ∷ ss) = ap₂ ◌++◌ (take_all 6 (shape_bytes s) (omega (arith, shape_bytes-length s))) (six_whole ss)
+six_whole = all_bytes_same (shape_in 6) shape_bytes (λ s. take_all 6 (shape_bytes s) (omega (arith, shape_bytes-length s)))
 
-pub list_bytes-length : (s : Shapes) → length s.held ≡ 64 → length (list_bytes s) ≡ 6 * min s.count 64
-list_bytes-length s e =
-    all_bytes-length shape_bytes 6 shape_bytes-length (listed_shapes s)
-    ∙ ap (λ (k : ℕ). 6 * k) (ap length (sym (listed_most s e)) ∙ length-take-le (min s.count 64) s.held (omega arith))
+-- the first w of a shape's six bytes, in eight of them
+pub padded_first : (w : ℕ) → w ≤ 6 → (ss : List Shape) → all_bytes (λ s. take w (shape_bytes s ++ 0 ∷ 0 ∷ [])) ss ≡ all_bytes (shape_in w) ss
+padded_first w h =
+    all_bytes_same (λ s. take w (shape_bytes s ++ 0 ∷ 0 ∷ [])) (shape_in w) (λ s. take-append-le w (shape_bytes s) (0 ∷ 0 ∷ []) (omega (arith, shape_bytes-length s)))
+
+pub padded_length : (s : Shape) → length (shape_bytes s ++ 0 ∷ 0 ∷ []) ≡ 8
+padded_length s = omega (arith, length-append (shape_bytes s) (0 ∷ 0 ∷ []), shape_bytes-length s)
+
+pub list_bytes-length : (s : Shapes) → length (list_bytes s) ≡ 6 * length (listed_shapes s)
+list_bytes-length s = all_bytes-length shape_bytes 6 shape_bytes-length (listed_shapes s)
 
 -- ---- a list that is written
 
 -- refused where it has no room
-pub list_refused : (s : Shapes) (out : List ℕ) → length s.held ≡ 64 → length out < 6 * min s.count 64 → Writes (shape_list s (length out)) (record { number = 3; count = 0 }) out out
+pub list_refused : (s : Shapes) (out : List ℕ) → length out < 6 * length (listed_shapes s) → Writes (shape_list s (length out)) (Err NoRoom) out out
 unfolding shape_list refusal
-list_refused s out e h =
-    writes_refused _ 3 _ _ out (rw (lt-ltb (length out) (length (list_bytes s)) (omega (arith, list_bytes-length s e)))) (λ z. omega arith) refl
+list_refused s out h =
+    writes_refused _ NoRoom _ out (rw (lt-ltb (length out) (length (list_bytes s)) (omega (arith, list_bytes-length s))))
 
 -- and else written from the front
-pub list_done : (s : Shapes) (n : ℕ) (out after : List ℕ) → length s.held ≡ 64 → n ≡ min s.count 64 → 6 * n ≤ length out → after ≡ sets out 0 (all_bytes (shape_in 6) (take n s.held)) → Writes (shape_list s (length out)) (record { number = 0; count = 6 * n }) out after
+pub list_done : (s : Shapes) (n : ℕ) (out after : List ℕ) → n ≡ 6 * length (listed_shapes s) → n ≤ length out → after ≡ sets out 0 (all_bytes (shape_in 6) (listed_shapes s)) → Writes (shape_list s (length out)) (Ok n) out after
 unfolding shape_list refusal
-list_done s n out after e m h w =
-    let l : 6 * n ≡ length (list_bytes s) = omega (arith, list_bytes-length s e) in
-    writes_done _ 0 _ _ out after (rw (le-ltb (length out) (length (list_bytes s)) (omega arith))) refl
-    (ap (λ (k : ℕ). record { number = 0; count = k }) l)
-    (w
-    ∙ ap (λ (ss : List Shape). sets out 0 (all_bytes (shape_in 6) ss)) (ap (λ (k : ℕ). take k s.held) m ∙ listed_most s e)
-    ∙ ap (sets out 0) (six_whole (listed_shapes s))
-    ∙ sets_laid (list_bytes s) out (omega arith))
+list_done s n out after e h w =
+    let l : n ≡ length (list_bytes s) = omega (arith, list_bytes-length s) in
+    writes_done _ _ _ out after (rw (le-ltb (length out) (length (list_bytes s)) (omega arith))) refl l
+    (w ∙ ap (sets out 0) (six_whole (listed_shapes s)) ∙ sets_laid (list_bytes s) out (omega arith))
 
 -- the whole list where there are no more than are held, and room
 pub list_whole : (ss : List Shape) (room : ℕ) → length ss ≤ 64 → 6 * length ss ≤ room → shape_list (shapes_of ss) room ≡ listed (all_bytes shape_bytes ss)

@@ -7,6 +7,7 @@ use lib.Count.{ones, ones_in}
 use lib.Ieee.{Float, fin, neg, add, mul, of_int, round, eq, lt, is_nan, binary64, to_bits}
 use lib.IntN.{pos, negsuc, pow, one}
 use lib.ListN.{replicate}
+use Rattle.std.specs.declared.cmp.Ordering.TheVariants.{Greater}
 use Rattle.clifford.specs.Blade.{has, count}
 use Rattle.clifford.specs.Sign.{sign}
 use Rattle.clifford.specs.Metric.{swaps, shared, turned, metric}
@@ -25,7 +26,6 @@ use Rattle.masks.specs.ShapeBytes.{shape_from}
 use Rattle.product.specs.Mode.{takes, flavor_for, pair_metric}
 use Rattle.product.specs.Pairwise.{metric_at, place_at, pairs_of, term, add_pair, inside, sums, product}
 use Rattle.product.specs.Products.{Counted, multiplied, general_product}
-use Rattle.arithmetic.specs.declared.outcome.Ordering.TheVariants.{Greater}
 use Rattle.arithmetic.specs.Scale.{unity}
 use Rattle.arithmetic.specs.Scalar.{all_zero, is_scalar, is_planar, test_of, if_scalar}
 use Rattle.arithmetic.specs.Compare.{answers_agree, equals, compared_nans, compared_numbers, compared_places, compared_counts, compared_by, compared}

@@ -1,6 +1,7 @@
 -- Reading a sheet. Assumes nothing.
-use Rattle.std.specs.Prelude.{◌≡◌, Bool, not, ◌&&◌, List, [], ◌∷◌, map, ℕ, eqb, length}
-use Rattle.masks.specs.Outcome.{Test, refusal, no_room, unless, laid}
+use Rattle.std.specs.Prelude.{◌≡◌, Bool, not, ◌&&◌, List, [], ◌∷◌, map, ℕ, eqb, length, Result}
+use Rattle.masks.specs.declared.outcome.Refusal.{Refusal}
+use Rattle.masks.specs.Outcome.{Test, refusal, no_room, unless, laid, IsAnswer}
 use Rattle.masks.specs.ShapeBytes.{shape_from}
 use Rattle.masks.specs.Text.{same}
 use Rattle.sheets.specs.declared.read.SheetRead.{SheetRead}
@@ -52,11 +53,11 @@ checked b = unless refused_sheet (refusal (malformed b ∷ [])) (a_sheet (said b
 
 -- ---- as the answer
 
--- The answer has the number, the shapes and the count of the patterns; the patterns are in the output.
-abbrev pub read_of : ReadOutcome → SheetRead
-read_of o = record { number = o.number; shapes = shapes_of o.sheet.shapes; count = length o.sheet.patterns }
+-- The answer has the shapes and the count of the patterns; the patterns are in the output.
+abbrev pub read_of : Sheet → SheetRead
+read_of s = record { shapes = shapes_of s.shapes; count = length s.patterns }
 
--- The answer r, and the output before and after, are those of the outcome.
-pub record Reads (o : ReadOutcome) (r : SheetRead) (before after : List ℕ) : Type 0 where
-  pub answered : r ≡ read_of o
+-- The answer r has the sheet's shapes and count or the refusal, and the output before and after is that of the outcome.
+pub record Reads (o : ReadOutcome) (r : Result SheetRead Refusal) (before after : List ℕ) : Type 0 where
+  pub answered : IsAnswer o.number (read_of o.sheet) r
   pub left : after ≡ laid o.sheet.patterns before

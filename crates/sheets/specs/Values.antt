@@ -16,13 +16,18 @@ start_of ss i = blade_total (take i ss)
 abbrev pub value_at_tests : List Shape → ℕ → List Test
 value_at_tests ss i = above_nine ss ∷ record { fails = leb (length ss) i; number = 2 } ∷ []
 
+pub record PlaceOutcome : Type 0 where
+  pub number : ℕ
+  pub place : Placed
+
 -- A refusal has its number, shape 0 Vanilla and 0.
-abbrev pub refused_place : ℕ → Placed
-refused_place k = record { number = k; shape = shape_of 0 Vanilla; start = 0 }
+abbrev pub refused_place : ℕ → PlaceOutcome
+refused_place k = record { number = k; place = record { shape = shape_of 0 Vanilla; start = 0 } }
 
 -- The shape at an index, and where its patterns start.
 abbrev pub placed_at : List Shape → ℕ → Placed
-placed_at ss i = record { number = 0; shape = get_or ss i (shape_of 0 Vanilla); start = start_of ss i }
+placed_at ss i = record { shape = get_or ss i (shape_of 0 Vanilla); start = start_of ss i }
 
-unfoldable pub value_at : Shapes → ℕ → Placed
-value_at s i = unless refused_place (refusal (value_at_tests (listed_shapes s) i)) (placed_at (listed_shapes s) i)
+unfoldable pub value_at : Shapes → ℕ → PlaceOutcome
+value_at s i =
+    unless refused_place (refusal (value_at_tests (listed_shapes s) i)) (record { number = 0; place = placed_at (listed_shapes s) i })

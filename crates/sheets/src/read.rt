@@ -1,18 +1,17 @@
 // Reading a sheet.
-ghost use Rattle.std.specs.Prelude.{◌≡◌, map, ◌+◌, ◌*◌, ◌≤◌, length, take, drop};
-ghost use Rattle.masks.specs.Outcome.{laid};
+ghost use Rattle.std.specs.Prelude.{◌≡◌, map, ◌/◌, ◌≤◌, length};
+ghost use Rattle.masks.specs.Outcome.{laid, IsAnswer};
 ghost use Rattle.sheets.specs.Bytes.{from_little_endian, parts};
-ghost use Rattle.sheets.specs.Read.{said, refused_sheet, read_of, Reads, read_sheet, checked};
+ghost use Rattle.sheets.specs.Read.{said, read_of, Reads, read_sheet, checked};
 ghost use Rattle.sheets.specs.inner.Checks.{is_shape, are_shapes};
 
-use super::bytes::{number_at, pattern_at};
-use super::shapes::{MAX_COEFFICIENTS, MAX_SHAPES, Shapes, blade_total, blank_shapes, shapes_by};
-use masks::outcome::{DONE, MALFORMED, MAX_DIMS, NO_ROOM};
+use super::bytes::{number_at, pattern_from, put_made};
+use super::shapes::{MAX_COEFFICIENTS, MAX_SHAPES, Shapes, blade_total, shape_at, shapes_by};
+use masks::outcome::{MAX_DIMS, Refusal};
 
 // A sheet: its patterns are in the caller's output.
 #[derive(Clone, Copy)]
 pub struct SheetRead {
-    pub number: u8,
     pub shapes: Shapes,
     pub count: usize,
 }
@@ -28,110 +27,82 @@ pub fn shape_count(bytes: &[u8]) -> usize
 }
 
 // Whether five bytes are those of a shape of at most nine dimensions.
-fn is_shape(bytes: &[u8], at: usize) -> bool
-    requires { at + 5 ≤ length bytes.now }
-    ensures { result ≡ is_shape (take 5 (drop at bytes.now)) }
+fn is_shape(five: &[u8; 5]) -> bool
+    ensures { result ≡ is_shape five.now }
 {
-    if MAX_DIMS < bytes[at] {
+    let [dims, kind, p, n, z] = *five;
+    if MAX_DIMS < dims {
         return false;
     }
-    if bytes[at + 1] == 2 {
+    if kind == 2 {
         return true;
     }
-    if 2 < bytes[at + 1] {
+    if 2 < kind {
         return false;
     }
-    bytes[at + 2] == 0 && bytes[at + 3] == 0 && bytes[at + 4] == 0
+    let none = p == 0 && n == 0;
+    none && z == 0
 }
 
-// Whether n shapes are well formed, the first being at byte 2.
-fn are_shapes(bytes: &[u8], n: usize) -> bool
-    requires { (n ≤ 64) × (2 + 5 * n ≤ length bytes.now) }
-    ensures { result ≡ are_shapes (parts 5 n (drop 2 bytes.now)) }
+// Whether the shapes that bytes say, five each, are well formed.
+fn are_shapes(bytes: &[u8]) -> bool
+    ensures { result ≡ are_shapes (parts 5 (length bytes.now / 5) bytes.now) }
 {
-    let mut i: usize = 0;
-    while i < n {
-        if !is_shape(bytes, 2 + 5 * i) {
-            return false;
-        }
-        i += 1;
-    }
-    true
-}
-
-fn refused_sheet(number: u8) -> SheetRead
-    ensures { result ≡ read_of (refused_sheet number) }
-{
-    let held = blank_shapes();
-    let shapes = Shapes { count: 0, held };
-    SheetRead {
-        number,
-        shapes,
-        count: 0,
-    }
+    let (fives, _) = bytes.as_chunks::<5>();
+    fives.iter().all(is_shape)
 }
 
 // The shapes of the sheet that bytes are, and how many patterns it has.
-pub fn check(bytes: &[u8]) -> SheetRead
-    ensures { result ≡ read_of (checked bytes.now) }
+pub fn check(bytes: &[u8]) -> Result<SheetRead, Refusal>
+    ensures { IsAnswer (checked bytes.now).number (read_of (checked bytes.now).sheet) result }
 {
     if bytes.len() < 2 {
-        return refused_sheet(MALFORMED);
+        return Err(Refusal::Malformed);
     }
     let n = number_at(bytes, 0, 2) as usize;
     if MAX_SHAPES < n {
-        return refused_sheet(MALFORMED);
+        return Err(Refusal::Malformed);
     }
     let at = 2 + 5 * n;
     if bytes.len() < at + 4 {
-        return refused_sheet(MALFORMED);
+        return Err(Refusal::Malformed);
     }
-    if !are_shapes(bytes, n) {
-        return refused_sheet(MALFORMED);
+    if !are_shapes(&bytes[2..at]) {
+        return Err(Refusal::Malformed);
     }
-    let shapes = shapes_by(&bytes[2..at], 5);
-    let count = blade_total(shapes, n);
+    let (fives, _) = bytes[2..at].as_chunks::<5>();
+    let shapes = shapes_by(fives, shape_at);
+    let count = blade_total(shapes.listed());
     if number_at(bytes, at, 4) != count as u64 {
-        return refused_sheet(MALFORMED);
+        return Err(Refusal::Malformed);
     }
     if MAX_COEFFICIENTS < count {
-        return refused_sheet(MALFORMED);
+        return Err(Refusal::Malformed);
     }
     if bytes.len() != at + 4 + 8 * count {
-        return refused_sheet(MALFORMED);
+        return Err(Refusal::Malformed);
     }
-    SheetRead {
-        number: DONE,
-        shapes,
-        count,
-    }
+    Ok(SheetRead { shapes, count })
 }
 
-// The n patterns from the place `at` on.
-fn put_patterns(bytes: &[u8], at: usize, n: usize, out: &mut [u64])
-    requires { (at + 8 * n ≤ length bytes.now) × (n ≤ length out.old) }
-    ensures { out.new ≡ laid (map from_little_endian (parts 8 n (drop at bytes.now))) out.old }
+// The patterns that bytes are, eight each.
+fn put_patterns(bytes: &[u8], out: &mut [u64])
+    requires { length bytes.now / 8 ≤ length out.old }
+    ensures { out.new ≡ laid (map from_little_endian (parts 8 (length bytes.now / 8) bytes.now)) out.old }
 {
-    let mut i: usize = 0;
-    while i < n {
-        out[i] = pattern_at(bytes, at + 8 * i);
-        i += 1;
-    }
+    let (patterns, _) = bytes.as_chunks::<8>();
+    put_made(patterns, pattern_from, out);
 }
 
 // The sheet that bytes are: its shapes, and its patterns from the front of the output.
-pub fn read(bytes: &[u8], out: &mut [u64]) -> SheetRead
+pub fn read(bytes: &[u8], out: &mut [u64]) -> Result<SheetRead, Refusal>
     ensures { Reads (read_sheet bytes.now (length out.old)) result out.old out.new }
 {
-    let sheet = check(bytes);
-    if sheet.number != DONE {
-        return sheet;
+    let sheet = check(bytes)?;
+    if out.len() < sheet.count {
+        return Err(Refusal::NoRoom);
     }
-    let count = sheet.count;
-    if out.len() < count {
-        return refused_sheet(NO_ROOM);
-    }
-    let at = bytes.len() - 8 * count;
-    put_patterns(bytes, at, count, out);
-    sheet
+    let at = bytes.len() - 8 * sheet.count;
+    put_patterns(&bytes[at..], out);
+    Ok(sheet)
 }

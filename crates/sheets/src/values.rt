@@ -1,47 +1,32 @@
 // The value at an index of a sheet.
-ghost use Rattle.std.specs.Prelude.{◌≡◌};
-ghost use Rattle.sheets.specs.Values.{refused_place, value_at};
+ghost use Rattle.masks.specs.Outcome.{IsAnswer};
+ghost use Rattle.sheets.specs.Values.{value_at};
 
-use super::shapes::{Shapes, any_above_nine, blade_total, listed_count};
-use masks::flavor::Flavor;
-use masks::outcome::{DONE, TOO_MANY_DIMS, WRONG_COUNT, shape_of};
+use super::shapes::{Shapes, any_above_nine, blade_total};
+use masks::outcome::Refusal;
 use masks::shape::Shape;
 
 // Where a value of a sheet is: its shape, and the place at which its patterns start.
 #[derive(Clone, Copy)]
 pub struct Placed {
-    pub number: u8,
     pub shape: Shape,
     pub start: usize,
 }
 
-fn refused_place(number: u8) -> Placed
-    ensures { result ≡ refused_place number }
-{
-    let shape = shape_of(0, Flavor::Vanilla);
-    Placed {
-        number,
-        shape,
-        start: 0,
-    }
-}
-
 // The value at an index: its shape, and where its patterns start.
-pub fn value_at(shapes: Shapes, index: usize) -> Placed
-    ensures { result ≡ value_at shapes index }
+pub fn value_at(shapes: Shapes, index: usize) -> Result<Placed, Refusal>
+    ensures { IsAnswer (value_at shapes index).number (value_at shapes index).place result }
 {
-    let n = listed_count(shapes.count);
-    if any_above_nine(shapes, n) {
-        return refused_place(TOO_MANY_DIMS);
+    let listed = shapes.listed();
+    if any_above_nine(listed) {
+        return Err(Refusal::TooManyDims);
     }
-    if n <= index {
-        return refused_place(WRONG_COUNT);
+    if listed.len() <= index {
+        return Err(Refusal::WrongCount);
     }
-    let start = blade_total(shapes, index);
-    let shape = shapes.held[index];
-    Placed {
-        number: DONE,
-        shape,
+    let start = blade_total(&listed[..index]);
+    Ok(Placed {
+        shape: listed[index],
         start,
-    }
+    })
 }

@@ -1,23 +1,14 @@
 -- The arrays in which a pose and a named value are held. For the contracts of private functions: no public contract rests on it. Assumes nothing.
-use Rattle.std.specs.Prelude.{◌≡◌, Bool, true, false, cond, List, map, ℕ, ◌+◌, ◌*◌, ◌^◌, Float, take, drop}
+use Rattle.std.specs.Prelude.{◌≡◌, Bool, cond, List, map, ℕ, ◌+◌, ◌*◌, ◌^◌, Float, take, drop, Some, Result, MatchResult}
 use Rattle.std.specs.Float.{binary64}
 use Rattle.std.specs.Float.Ieee.{of_bits}
+use Rattle.masks.specs.declared.outcome.Refusal.{Refusal}
 use Rattle.masks.specs.declared.shape.Shape.{Shape}
-use Rattle.masks.specs.Outcome.{Outcome, Gives, value}
+use Rattle.masks.specs.Outcome.{number_of, Outcome, value, laid}
 use Rattle.sheets.specs.Bytes.{from_little_endian, parts}
 use Rattle.replay.specs.declared.log.Step.{Step}
-use Rattle.replay.specs.declared.log.Step.TheVariants.{Right, Left, Reverse, Dims, Halt, Unknown}
 use Rattle.replay.specs.declared.step.Tried.{Tried}
 use Rattle.replay.specs.Step.{stepped, fires}
-
--- A step names a value.
-unfoldable pub names : Step → Bool
-names (Right k) = true
-names (Left k) = true
-names Reverse = false
-names (Dims m) = false
-names (Halt k) = true
-names Unknown = false
 
 -- The value of a shape that is at the front of an array.
 abbrev pub held_value : Shape → List Float → Outcome
@@ -27,10 +18,16 @@ held_value s xs = value s (take (2 ^ s.dims) xs)
 abbrev pub numbers_at : List ℕ → ℕ → ℕ → ℕ → List Float
 numbers_at b count start n = map (of_bits binary64) (map from_little_endian (parts 8 n (drop (6 + 5 * count + 8 * start) b)))
 
+-- A step that is done has the shape of the outcome o, and whether it fires.
+pub record IsTried (o : Outcome) (fired : Bool) (t : Tried) : Type 0 where
+  pub done : o.number ≡ 0
+  pub shape : t.shape ≡ o.shape
+  pub halts : t.halts ≡ fired
+
 -- A step was tried of a pose and a value: its answer with the output before and after, and whether it fires.
-pub record Tries (s : Step) (p v : Outcome) (r : Tried) (before after : List Float) : Type 0 where
-  pub gives : Gives (stepped s p v) r.answer before after
-  pub fired : r.halts ≡ fires s p v
+pub record Tries (s : Step) (p v : Outcome) (r : Result Tried Refusal) (before after : List Float) : Type 0 where
+  pub answered : MatchResult r (IsTried (stepped (Some s) p v) (fires (Some s) p v)) (λ refused. (stepped (Some s) p v).number ≡ number_of refused)
+  pub left : after ≡ laid (stepped (Some s) p v).coefs before
 
 -- The array that has its turn, and the other.
 abbrev pub turn {ℓ} : {A : Type ℓ} → Bool → A → A → A

@@ -1,18 +1,22 @@
-use mathlib.Core.Path.{sym}
-use Rattle.masks.proofs.OutcomeLaws.{unless_refused, unless_done}
-use Rattle.arithmetic.specs.Compare.{refused_ordered, compared}
+use mathlib.Core.Path.{refl}
+use Rattle.std.proofs.lemmas.Result.{err_from_is_err_and}
+use Rattle.masks.proofs.OutcomeLaws.{answered_err, answered_ok}
+use Rattle.arithmetic.specs.Compare.{Ordered, refused_ordered, compared}
 use Rattle.arithmetic.proofs.CompareLaws.{both_counted}
 use Rattle.arithmetic.proofs.compare.cmp.Goals as goal
 
-pub returns-then-no-ne-DONE : goal.returns-then-no-ne-DONE
+pub returns-in_err-compare_refusal : goal.returns-in_err-compare_refusal
 unfolding compared
-returns-then-no-ne-DONE c = sym (unless_refused refused_ordered _ _ _ c.compare_refusal-no.ensures c.if-no-ne-DONE.true)
+returns-in_err-compare_refusal c =
+    let p = err_from_is_err_and c.from_residual.result c.from_residual.ensures.1 in
+    let f = c.in_err-compare_refusal in
+    rw (p.1, p.2) (answered_err (λ (o : Ordered). o.number) (λ o. o.order) refused_ordered _ _ f.field-0.0 refl f.ensures)
 
-pub compare_values-order-requires : goal.compare_values-order-requires
-compare_values-order-requires c =
+pub compare_values-requires : goal.compare_values-requires
+compare_values-requires c =
     let a = c.args in
-    both_counted a.left a.right a.a.now a.b.now _ c.compare_refusal-no.ensures c.if-no-ne-DONE.false
+    both_counted a.left a.right a.a.now a.b.now c.in_ok-compare_refusal.ensures.0
 
 pub returns : goal.returns
 unfolding compared
-returns c = rw c.compare_values-order.ensures (sym (unless_done refused_ordered _ _ _ c.compare_refusal-no.ensures c.if-no-ne-DONE.false))
+returns c = answered_ok (λ (o : Ordered). o.number) (λ o. o.order) refused_ordered _ _ _ refl c.in_ok-compare_refusal.ensures.0 c.compare_values.ensures

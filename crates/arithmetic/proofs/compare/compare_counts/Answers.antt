@@ -1,17 +1,23 @@
-use Prim.Native.Nat.{◌<◌}
+use mathlib.Core.Path.{◌≡◌, refl, ◌∙◌}
+use mathlib.Core.Bool.{cond}
+use mathlib.Core.Logic.{⊎_elim}
+use Prim.Native.Nat.{ℕ, ◌<◌, ◌≤◌}
 use native.Mathlib.Omega.{arith}
+use lib.Dec.{eqb, ltb}
 use lib.ListN.{length}
-use borrow.Author.Tests.{lt-ltb, le-ltb}
-use Rattle.arithmetic.specs.Compare.{compared_counts}
+use borrow.Author.Tests.{lt-ltb, le-ltb, ne_eqb}
+use Rattle.std.specs.declared.cmp.Ordering.{Ordering}
+use Rattle.std.specs.declared.cmp.Ordering.TheVariants.{Less, Equal, Greater}
+use Rattle.masks.proofs.ListLaws.{split}
+use Rattle.arithmetic.specs.Compare.{or_else, compared_counts, compared_places}
 use Rattle.arithmetic.proofs.compare.compare_counts.Goals as goal
 
-pub returns-then-a-b : goal.returns-then-a-b
+by_counts : (m n : ℕ) (o : Ordering) → (m ≡ n → ⊥) → cond (ltb m n) Less (cond (eqb m n) Equal Greater) ≡ or_else (compared_counts m n) o
 unfolding compared_counts
-returns-then-a-b c = rw (lt-ltb _ _ c.if-a-b.true)
+by_counts m n o h =
+    ⊎_elim (λ (l : m < n). rw (lt-ltb m n l) refl)
+    (λ (l : n ≤ m). let g : n < m = omega (arith, h) in rw (le-ltb m n l, ne_eqb m n h, lt-ltb n m g) refl)
+    (split m n)
 
 pub returns : goal.returns
-unfolding compared_counts
-returns c =
-    let s = c.args in
-    let l : length s.b.now < length s.a.now = omega (arith, c.requires) in
-    rw (le-ltb (length s.a.now) (length s.b.now) c.if-a-b.false, lt-ltb (length s.b.now) (length s.a.now) l)
+returns c = c.cmp.ensures ∙ by_counts (length c.args.a.now) (length c.args.b.now) (compared_places c.args.a.now c.args.b.now) c.requires

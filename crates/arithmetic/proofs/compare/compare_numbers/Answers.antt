@@ -1,14 +1,9 @@
-use Rattle.arithmetic.specs.Compare.{compared_numbers}
+use mathlib.Core.Path.{sym, ◌∙◌}
+use Rattle.arithmetic.proofs.CompareLaws.{ordered, unordered}
 use Rattle.arithmetic.proofs.compare.compare_numbers.Goals as goal
 
-pub returns-then-x-y : goal.returns-then-x-y
-unfolding compared_numbers
-returns-then-x-y c = rw c.if-x-y.true
+pub returns-in-Some : goal.returns-in-Some
+returns-in-Some c = sym (ordered c.args.x c.args.y c.in-Some.order (sym c.in-Some.ensures))
 
-pub returns-then-y-x : goal.returns-then-y-x
-unfolding compared_numbers
-returns-then-y-x c = rw (c.if-x-y.false, c.if-y-x.true)
-
-pub returns : goal.returns
-unfolding compared_numbers
-returns c = rw (c.if-x-y.false, c.if-y-x.false) c.compare_nan.ensures
+pub returns-in-None : goal.returns-in-None
+returns-in-None c = c.compare_nan.ensures ∙ sym (unordered c.args.x c.args.y (sym c.in-None.ensures))

@@ -1,13 +1,6 @@
 use mathlib.Core.Path.{sym, ◌∙◌}
-use native.Mathlib.Omega.{arith}
-use lib.Pow.{pow_pos}
 use Rattle.arithmetic.proofs.CompareLaws.{by_all_places, by_lists_left, by_lists_right, by_numbers}
 use Rattle.arithmetic.proofs.compare.compare_values.Goals as goal
-
-pub compare_places-requires : goal.compare_places-requires
-compare_places-requires c =
-    let s = c.args in
-    (omega (arith, pow_pos s.left.dims, pow_pos s.right.dims), omega arith)
 
 pub returns-then-a-b : goal.returns-then-a-b
 returns-then-a-b c =
@@ -24,16 +17,6 @@ returns-then-not-is_scalar-2 c =
     let s = c.args in
     c.compare_counts-then-not-is_scalar-2.ensures
     ∙ sym (by_lists_right s.left s.right s.a.now s.b.now (sym c.is_scalar.ensures ∙ c.if-not-is_scalar.false) (sym c.is_scalar-2.ensures ∙ c.if-not-is_scalar-2.true))
-
-pub bounds-a-0 : goal.bounds-a-0
-bounds-a-0 c =
-    let s = c.args in
-    omega (arith, pow_pos s.left.dims, pow_pos s.right.dims)
-
-pub bounds-b-0 : goal.bounds-b-0
-bounds-b-0 c =
-    let s = c.args in
-    omega (arith, pow_pos s.left.dims, pow_pos s.right.dims)
 
 pub returns : goal.returns
 returns c =

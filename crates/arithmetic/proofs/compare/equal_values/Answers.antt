@@ -13,9 +13,6 @@ other : (s t : Shape) (a b : List Float) → is_scalar a ≡ false → (x : Bool
 other s t a b e true f = sym (agree_right s t a b e f)
 other s t a b e false f = sym (ap (λ (x : Bool). x || same_places a b) (agree_others s t a b e f))
 
-pub equal_scalars-requires : goal.equal_scalars-requires
-equal_scalars-requires c = (sym c.is_scalar.ensures ∙ c.if-is_scalar.true, sym c.is_scalar-then-is_scalar.ensures ∙ c.if-is_scalar-2.true)
-
 pub returns-then-is_scalar-2 : goal.returns-then-is_scalar-2
 returns-then-is_scalar-2 c =
     let s = c.args in

@@ -1,24 +1,26 @@
-use mathlib.Core.Path.{sym, ◌∙◌}
 use lib.ListN.{length}
+use Rattle.std.proofs.lemmas.Result.{err_from_is_err_and}
 use Rattle.arithmetic.specs.Dual.{dual_of}
 use Rattle.arithmetic.proofs.KeptLaws.{kept_accepted, kept_refused, kept_done}
 use Rattle.arithmetic.proofs.OrderPassed.{passed_none}
 use Rattle.arithmetic.proofs.dual.dual.Goals as goal
 
-pub returns-then-no-ne-DONE : goal.returns-then-no-ne-DONE
-returns-then-no-ne-DONE c =
+pub returns-in_err-kept_refusal : goal.returns-in_err-kept_refusal
+returns-in_err-kept_refusal c =
     let a = c.args in
-    let k = c.kept_refusal-no in
-    kept_refused (dual_of a.shape.dims) a.shape a.a.now k.result c.refused.result a.out.now k.ensures c.if-no-ne-DONE.true c.refused.ensures
+    let p = err_from_is_err_and c.from_residual.result c.from_residual.ensures.1 in
+    rw (p.1, p.2) (kept_refused (dual_of a.shape.dims) a.shape a.a.now a.out.now c.in_err-kept_refusal.field-0.0 c.in_err-kept_refusal.ensures)
 
-pub put_dual-requires : goal.put_dual-requires
-put_dual-requires c =
+pub put_dual-requires-clause-in_order : goal.put_dual-requires-clause-in_order
+put_dual-requires-clause-in_order c = passed_none _
+
+pub put_dual-requires-clause-dims_bound : goal.put_dual-requires-clause-dims_bound
+put_dual-requires-clause-dims_bound c =
     let a = c.args in
-    let f = kept_accepted a.shape a.a.now (length a.out.now) (sym c.kept_refusal-no.ensures ∙ c.if-no-ne-DONE.false) in
-    record { in_order = passed_none a.shape.dims; dims_bound = (f.small, f.counted, f.roomy) }
+    let f = kept_accepted a.shape a.a.now (length a.out.now) c.in_ok-kept_refusal.ensures.0 in
+    (f.small, f.counted, f.roomy)
 
 pub returns : goal.returns
 returns c =
     let a = c.args in
-    let k = c.kept_refusal-no in
-    kept_done (dual_of a.shape.dims) a.shape a.a.now k.result c.done.result a.out.now k.ensures _ c.if-no-ne-DONE.false c.done.ensures c.put_dual.ensures
+    kept_done (dual_of a.shape.dims) a.shape a.a.now a.out.now _ c.in_ok-kept_refusal.ensures.0 c.put_dual.ensures

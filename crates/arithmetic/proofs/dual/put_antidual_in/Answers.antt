@@ -1,18 +1,16 @@
 use lib.Ieee.{of_bits, of_fields}
 use Rattle.arithmetic.proofs.DualRegressive.{antidual_laid}
-use Rattle.arithmetic.proofs.OrderPassed.{passed_vanilla}
+use Rattle.arithmetic.proofs.OrderPassed.{array_room, passed_vanilla}
 use Rattle.arithmetic.proofs.dual.put_antidual_in.Goals as goal
 
 pub mul_by-requires : goal.mul_by-requires
-mul_by-requires c =
+mul_by-requires g c =
     let v = c.with_flavor-vanilla in
     passed_vanilla c.args.given.now c.args.shape.dims v.result v.ensures c.requires.in_order
 
 pub returns : goal.returns
 unfolding of_bits of_fields
-returns c =
+returns g c =
     let a = c.args in
-    let v = c.with_flavor-vanilla in
-    let u = c.pseudoscalar in
-    let p = c.mul_by in
-    antidual_laid a.shape.dims a.a.now c.requires.dims_bound.0 c.requires.dims_bound.1 v.result v.ensures u.result _ _ c.requires.dims_bound.2 u.ensures a.out.now _ c.requires.dims_bound.3 p.result p.ensures
+    let r = c.requires.dims_bound in
+    antidual_laid a.shape.dims a.a.now r.0 r.1 c.with_flavor-vanilla.result c.with_flavor-vanilla.ensures c.pseudoscalar.result _ _ (array_room _ r.2) c.pseudoscalar.ensures a.out.now _ r.3 c.mul_by.result c.mul_by.ensures

@@ -2,5 +2,7 @@ use native.Mathlib.Omega.{arith}
 use Rattle.masks.proofs.OrderLaws.{blades_le}
 use Rattle.arithmetic.proofs.dual.put_dual.Goals as goal
 
-pub put_dual_in-requires-2 : goal.put_dual_in-requires-2
-put_dual_in-requires-2 c = record { in_order = c.requires.in_order; dims_bound = (c.requires.dims_bound.0, c.requires.dims_bound.1, omega (arith, c.requires.dims_bound.1, blades_le c.args.shape.dims c.requires.dims_bound.0), c.requires.dims_bound.2) }
+pub put_dual_in-requires-else-a-le64-clause-dims_bound : goal.put_dual_in-requires-else-a-le64-clause-dims_bound
+put_dual_in-requires-else-a-le64-clause-dims_bound c =
+    let r = c.requires.dims_bound in
+    (r.0, r.1, omega (arith, r.1, blades_le _ r.0), r.2, omega arith)

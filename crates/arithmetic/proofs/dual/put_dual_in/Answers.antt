@@ -1,12 +1,11 @@
 use lib.Ieee.{of_bits, of_fields}
 use Rattle.arithmetic.proofs.DualRegressive.{dual_laid}
+use Rattle.arithmetic.proofs.OrderPassed.{array_room}
 use Rattle.arithmetic.proofs.dual.put_dual_in.Goals as goal
 
 pub returns : goal.returns
 unfolding of_bits of_fields
-returns c =
+returns g c =
     let a = c.args in
-    let v = c.with_flavor-vanilla in
-    let u = c.pseudoscalar in
-    let p = c.multiply in
-    dual_laid a.shape.dims a.a.now c.requires.dims_bound.0 c.requires.dims_bound.1 v.result v.ensures u.result _ _ c.requires.dims_bound.2 u.ensures a.out.now _ c.requires.dims_bound.3 a.given.now c.requires.in_order p.result p.ensures
+    let r = c.requires.dims_bound in
+    dual_laid a.shape.dims a.a.now r.0 r.1 c.with_flavor-vanilla.result c.with_flavor-vanilla.ensures c.pseudoscalar.result _ _ (array_room _ r.2) c.pseudoscalar.ensures a.out.now _ r.3 a.given.now c.requires.in_order c.multiply.result c.multiply.ensures

@@ -1,46 +1,61 @@
 use mathlib.Core.Path.{◌≡◌, sym, ap, ◌∙◌, subst}
-use Prim.Native.Nat.{ℕ, ◌-◌, ◌^◌, ◌≤◌}
+use mathlib.Core.List.{List}
+use Prim.Native.Nat.{ℕ, ◌^◌, ◌≤◌}
 use native.Mathlib.Omega.{arith}
+use lib.Ieee.{Float}
 use lib.ListN.{length}
 use lib.Seq.{length-take-le}
-use Rattle.masks.proofs.OrderLaws.{blades_counted}
+use Rattle.masks.proofs.OrderLaws.{none_counted}
+use Rattle.masks.specs.declared.shape.Shape.{Shape}
+use Rattle.masks.specs.Order.{blades_or_none}
 use Rattle.masks.specs.Shape.{meeting_dims}
 use Rattle.arithmetic.specs.inner.Given.{InOrder}
-use Rattle.arithmetic.proofs.DualRegressive.{Meets, meeting_shape, gives_regressive}
-use Rattle.arithmetic.proofs.dual.regressive_in.Goals.{After-blade_count-n}
+use Rattle.arithmetic.proofs.DualRegressive.{Meets, meeting_shape, never_refused, gives_regressive}
+use Rattle.arithmetic.proofs.OrderPassed.{array_room}
 use Rattle.arithmetic.proofs.dual.regressive_in.Goals as goal
 
--- The outer product has the dimensions that the values meet in, and the blades of those.
-module _ (b : After-blade_count-n) where
-  met : Meets b.args.left b.args.right b.args.a.now b.args.b.now (length b.args.out.now)
-  met = record { small = b.requires.dims_bound.0; small_right = b.requires.dims_bound.1; result = b.requires.dims_bound.2; counted = b.requires.a_len.0; counted_right = b.requires.a_len.1; roomy = b.requires.a_len.2 }
+met : (s t : Shape) (a b : List Float) (room : ℕ) → (s.dims ≤ 9) × (t.dims ≤ 9) × (meeting_dims s t ≤ 9) → (length a ≡ 2 ^ s.dims) × (length b ≡ 2 ^ t.dims) × (2 ^ meeting_dims s t ≤ room) → Meets s t a b room
+met s t a b room p q = record { small = p.0; small_right = p.1; result = p.2; counted = q.0; counted_right = q.1; roomy = q.2 }
 
-  dims : b.multiply-p.result.shape.dims ≡ meeting_dims b.args.left b.args.right
-  dims =
-      let p = b.multiply-p in
-      meeting_shape b.args.left b.args.right b.args.a.now b.args.b.now (length b.args.out.now) met b.args.joined.now b.requires.in_order.2 p.result _ _ _ _ _ _ b.requires.a_in_bounds.2 b.put_dual.ensures b.put_dual-2.ensures p.ensures
+-- The product's dimensions d are the n that the values meet in, so the product has m numbers, and the third array room for them.
+module _ (d n m : ℕ) (e : d ≡ n) (h : n ≤ 9) (k : m ≡ blades_or_none d) where
+  small : d ≤ 9
+  small = omega (arith, e)
 
-  small : b.multiply-p.result.shape.dims ≤ 9
-  small = omega (arith, dims, met.result)
+  counted : m ≡ 2 ^ d
+  counted = none_counted k small
 
-  counted : b.blade_count-n.result.count - 0 ≡ 2 ^ b.multiply-p.result.shape.dims
-  counted = omega (arith, blades_counted b.blade_count-n.ensures small)
+  within : (room : ℕ) → 2 ^ n ≤ room → m ≤ room
+  within room l = omega (arith, counted, ap (λ (i : ℕ). 2 ^ i) e)
 
-  -- The third array has room for them.
-  few : b.blade_count-n.result.count ≤ length b.multiply-p.new.out
-  few = omega (arith, counted, ap (λ (n : ℕ). 2 ^ n) dims, b.requires.a_in_bounds.2, b.multiply-p.auto.out)
+pub returns-in_err-p : goal.returns-in_err-p
+returns-in_err-p g c =
+    let a = c.args in
+    absurd (never_refused a.left a.right a.a.now a.b.now (length a.out.now) (met a.left a.right a.a.now a.b.now (length a.out.now) c.requires.dims_bound c.requires.a_len) a.joined.now c.requires.in_order.2 _ _ _ _ _ _ (array_room _ c.requires.a_in_bounds.2) c.put_dual.ensures c.put_dual-2.ensures c.in_err-p.field-0.0 c.in_err-p.ensures)
 
-pub slice_bounds-put_antidual-end : goal.slice_bounds-put_antidual-end
-slice_bounds-put_antidual-end c = omega (arith, few c)
+pub shared_whole_as_front-put_antidual : goal.shared_whole_as_front-put_antidual
+shared_whole_as_front-put_antidual g c =
+    let a = c.args in
+    let d = meeting_shape a.left a.right a.a.now a.b.now (length a.out.now) (met a.left a.right a.a.now a.b.now (length a.out.now) c.requires.dims_bound c.requires.a_len) a.joined.now c.requires.in_order.2 _ _ _ _ _ _ (array_room _ c.requires.a_in_bounds.2) c.put_dual.ensures c.put_dual-2.ensures c.in_ok-p.p c.in_ok-p.ensures in
+    (within _ _ _ d c.requires.dims_bound.2 c.blades_or_none-n.ensures _ c.requires.a_in_bounds.2, omega (arith, c.requires.a_in_bounds.4))
 
-pub put_antidual-requires : goal.put_antidual-requires
-put_antidual-requires c = record { in_order = subst (InOrder c.args.joined.now) (sym (dims (goal.at.put_antidual-requires c).After-blade_count-n)) c.requires.in_order.2; dims_bound = (small (goal.at.put_antidual-requires c).After-blade_count-n, length-take-le _ _ (omega (arith, few (goal.at.put_antidual-requires c).After-blade_count-n)) ∙ counted (goal.at.put_antidual-requires c).After-blade_count-n, omega (arith, ap (λ (n : ℕ). 2 ^ n) (dims (goal.at.put_antidual-requires c).After-blade_count-n), (met (goal.at.put_antidual-requires c).After-blade_count-n).roomy)) }
+pub put_antidual-requires-clause-in_order : goal.put_antidual-requires-clause-in_order
+put_antidual-requires-clause-in_order g c =
+    let a = c.args in
+    subst (InOrder a.joined.now) (sym (meeting_shape a.left a.right a.a.now a.b.now (length a.out.now) (met a.left a.right a.a.now a.b.now (length a.out.now) c.requires.dims_bound c.requires.a_len) a.joined.now c.requires.in_order.2 _ _ _ _ _ _ (array_room _ c.requires.a_in_bounds.2) c.put_dual.ensures c.put_dual-2.ensures c.in_ok-p.p c.in_ok-p.ensures)) c.requires.in_order.2
 
-pub shape_of-x : goal.shape_of-x
-shape_of-x c = let k = c.put_dual.auto in omega arith
+pub put_antidual-requires-clause-dims_bound : goal.put_antidual-requires-clause-dims_bound
+put_antidual-requires-clause-dims_bound g c =
+    let a = c.args in
+    let d = meeting_shape a.left a.right a.a.now a.b.now (length a.out.now) (met a.left a.right a.a.now a.b.now (length a.out.now) c.requires.dims_bound c.requires.a_len) a.joined.now c.requires.in_order.2 _ _ _ _ _ _ (array_room _ c.requires.a_in_bounds.2) c.put_dual.ensures c.put_dual-2.ensures c.in_ok-p.p c.in_ok-p.ensures in
+    let k = counted _ _ _ d c.requires.dims_bound.2 c.blades_or_none-n.ensures in (
+      small _ _ _ d c.requires.dims_bound.2 c.blades_or_none-n.ensures,
+      length-take-le _ _ (rw c.multiply.auto.out (array_room _ (within _ _ _ d c.requires.dims_bound.2 c.blades_or_none-n.ensures _ c.requires.a_in_bounds.2))) ∙ k,
+      omega (arith, ap (λ (i : ℕ). 2 ^ i) d, c.requires.a_len.2),
+    )
 
 pub returns : goal.returns
-returns c =
+returns g c =
     let a = c.args in
-    let p = c.multiply-p in
-    gives_regressive a.left a.right a.a.now a.b.now (length a.out.now) (met (goal.at.returns c).After-blade_count-n) a.joined.now c.requires.in_order.2 p.result _ _ _ _ _ _ c.requires.a_in_bounds.2 c.put_dual.ensures c.put_dual-2.ensures p.ensures (c.blade_count-n.result.count - 0) c.done.result a.out.now _ (counted (goal.at.returns c).After-blade_count-n) c.done.ensures c.put_antidual.ensures
+    let d = meeting_shape a.left a.right a.a.now a.b.now (length a.out.now) (met a.left a.right a.a.now a.b.now (length a.out.now) c.requires.dims_bound c.requires.a_len) a.joined.now c.requires.in_order.2 _ _ _ _ _ _ (array_room _ c.requires.a_in_bounds.2) c.put_dual.ensures c.put_dual-2.ensures c.in_ok-p.p c.in_ok-p.ensures in
+    gives_regressive a.left a.right a.a.now a.b.now (length a.out.now) (met a.left a.right a.a.now a.b.now (length a.out.now) c.requires.dims_bound c.requires.a_len) a.joined.now c.requires.in_order.2 _ _ _ _ _ _ (array_room _ c.requires.a_in_bounds.2) c.put_dual.ensures c.put_dual-2.ensures c.in_ok-p.p c.in_ok-p.ensures c.blades_or_none-n.result a.out.now _ (counted _ _ _ d c.requires.dims_bound.2 c.blades_or_none-n.ensures) c.put_antidual.ensures

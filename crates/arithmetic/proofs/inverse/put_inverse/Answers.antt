@@ -1,4 +1,4 @@
-use mathlib.Core.Path.{◌≡◌, sym, ap, ◌∙◌}
+use mathlib.Core.Path.{◌≡◌, ap, ◌∙◌}
 use mathlib.Core.List.{List}
 use lib.Ieee.{Float}
 use Rattle.masks.specs.declared.shape.Shape.{Shape}
@@ -9,26 +9,20 @@ use Rattle.arithmetic.specs.Inverse.{inverse_by, inverse_of}
 use Rattle.arithmetic.proofs.inverse.put_inverse.Goals as goal
 
 -- What the test answers decides.
-decided : (s : Shape) (a out : List Float) (t u : ScalarTest) → t ≡ test_of s a → t ≡ u → laid (inverse_by u s a) out ≡ laid (inverse_of s a) out
-decided s a out t u e g = ap (λ (v : ScalarTest). laid (inverse_by v s a) out) (sym g ∙ e)
+decided : (s : Shape) (a out : List Float) (u : ScalarTest) → u ≡ test_of s a → laid (inverse_by u s a) out ≡ laid (inverse_of s a) out
+decided s a out u e = ap (λ (v : ScalarTest). laid (inverse_by v s a) out) e
 
 pub put_general-requires : goal.put_general-requires
 put_general-requires c = record { in_order = c.requires.in_order; dims_bound = (c.requires.dims_bound.0, c.requires.dims_bound.1, c.requires.dims_bound.2) }
 
 pub returns-in-Scalar : goal.returns-in-Scalar
 unfolding inverse_by
-returns-in-Scalar c =
-    let a = c.args in
-    c.put_reciprocal.ensures ∙ decided a.shape a.a.now a.out.now _ _ c.test_of-test.ensures c.in-Scalar.is
+returns-in-Scalar c = let a = c.args in c.put_reciprocal.ensures ∙ decided a.shape a.a.now a.out.now _ c.in-Scalar.ensures
 
 pub returns-in-Planar : goal.returns-in-Planar
 unfolding inverse_by
-returns-in-Planar c =
-    let a = c.args in
-    decided a.shape a.a.now a.out.now _ _ c.test_of-test.ensures c.in-Planar.is
+returns-in-Planar c = let a = c.args in decided a.shape a.a.now a.out.now _ c.in-Planar.ensures
 
 pub returns-in-Neither : goal.returns-in-Neither
 unfolding inverse_by
-returns-in-Neither c =
-    let a = c.args in
-    c.put_general.ensures ∙ decided a.shape a.a.now a.out.now _ _ c.test_of-test.ensures c.in-Neither.is
+returns-in-Neither c = let a = c.args in c.put_general.ensures ∙ decided a.shape a.a.now a.out.now _ c.in-Neither.ensures

@@ -3,6 +3,8 @@ use mathlib.Core.List.{List}
 use Prim.Native.Nat.{ℕ, ◌^◌}
 use lib.Ieee.{Float}
 use lib.ListN.{length}
+use Rattle.std.specs.Prelude.{Result}
+use Rattle.masks.specs.declared.outcome.Refusal.{Refusal}
 use Rattle.masks.specs.declared.shape.Shape.{Shape}
 use Rattle.masks.specs.Outcome.{laid}
 use Rattle.product.specs.declared.mode.Mode.TheVariants.{All}
@@ -17,7 +19,7 @@ use Rattle.arithmetic.specs.Inverse.{square_of}
 use Rattle.arithmetic.proofs.OrderPassed.{passed_same}
 use Rattle.arithmetic.proofs.inverse.put_square.Goals as goal
 
-by_itself : (given : List ℕ) (s : Shape) (x out after : List Float) (r : Product) → InOrder given s.dims → Fitting s (length out) → length x ≡ 2 ^ s.dims
+by_itself : (given : List ℕ) (s : Shape) (x out after : List Float) (r : Result Product Refusal) → InOrder given s.dims → Fitting s (length out) → length x ≡ 2 ^ s.dims
     → GivesProduct (multiplied_by given All s s x x (length out)) r out after → after ≡ laid (square_of s x) out
 by_itself given s x out after r h f l g =
     g.left

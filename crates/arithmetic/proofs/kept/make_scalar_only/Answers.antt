@@ -1,18 +1,24 @@
+use native.Mathlib.Omega.{arith}
+use lib.Pow.{pow_pos}
+use Rattle.std.proofs.lemmas.Result.{err_from_is_err_and}
 use Rattle.arithmetic.specs.Kept.{scalar_only}
-use Rattle.arithmetic.proofs.KeptLaws.{copy_refused, copy_room, copy_changed, scalar_only_length}
+use Rattle.arithmetic.proofs.KeptLaws.{copy_refused, copy_accepted, copy_room, copy_changed, scalar_only_length}
 use Rattle.arithmetic.proofs.kept.make_scalar_only.Goals as goal
+
+pub returns-in_err-kept : goal.returns-in_err-kept
+returns-in_err-kept c =
+    let s = c.args in
+    let p = err_from_is_err_and c.from_residual.result c.from_residual.ensures.1 in
+    let f = c.in_err-kept in
+    rw (p.1, p.2) (copy_refused s.shape s.a.now f.field-0.0 s.out.now _ f.ensures scalar_only)
 
 pub clear_rest-requires : goal.clear_rest-requires
 clear_rest-requires c =
     let s = c.args in
-    copy_room s.shape s.a.now c.set_dims-r.result s.out.now _ c.set_dims-r.ensures c.if-r-eq-DONE.true
+    let f = c.in_ok-kept in
+    (omega (arith, (copy_accepted s.shape s.a.now f.kept s.out.now _ f.ensures).counted, pow_pos s.shape.dims), copy_room s.shape s.a.now f.kept s.out.now _ f.ensures)
 
-pub returns-then-r-eq-DONE : goal.returns-then-r-eq-DONE
-returns-then-r-eq-DONE c =
+pub returns : goal.returns
+returns c =
     let s = c.args in
-    copy_changed s.shape s.a.now c.set_dims-r.result s.out.now _ c.set_dims-r.ensures scalar_only _ c.if-r-eq-DONE.true (scalar_only_length s.a.now) c.clear_rest.ensures
-
-pub returns-else-r-eq-DONE : goal.returns-else-r-eq-DONE
-returns-else-r-eq-DONE c =
-    let s = c.args in
-    copy_refused s.shape s.a.now c.set_dims-r.result s.out.now _ c.set_dims-r.ensures scalar_only c.if-r-eq-DONE.false
+    copy_changed s.shape s.a.now c.in_ok-kept.kept s.out.now _ c.in_ok-kept.ensures scalar_only _ (scalar_only_length s.a.now) c.clear_rest.ensures

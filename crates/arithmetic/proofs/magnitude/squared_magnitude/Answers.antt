@@ -1,33 +1,40 @@
-use mathlib.Core.Path.{sym, ◌∙◌}
+use mathlib.Core.Path.{refl}
 use mathlib.Core.List.{[]}
 use native.Mathlib.Omega.{arith}
-use lib.Ieee.{of_bits, of_fields}
 use lib.ListN.{length}
-use Rattle.masks.specs.Outcome.{refused_real}
-use Rattle.masks.proofs.OutcomeLaws.{unless_refused, unless_done, Valued, valued}
+use lib.Pow.{pow_mono}
+use Rattle.std.proofs.lemmas.Result.{err_from_is_err_and}
+use Rattle.masks.specs.Outcome.{Real, refused_real}
+use Rattle.masks.proofs.OutcomeLaws.{answered_err, answered_ok, Valued, valued}
 use Rattle.arithmetic.specs.Magnitude.{squared_magnitude}
+use Rattle.arithmetic.proofs.magnitude.squared_magnitude.Goals.{In_ok-value_refusal}
 use Rattle.arithmetic.proofs.magnitude.squared_magnitude.Goals as goal
 
-pub returns-then-no-ne-DONE : goal.returns-then-no-ne-DONE
-unfolding squared_magnitude of_bits of_fields
-returns-then-no-ne-DONE c = sym (unless_refused refused_real _ _ _ c.value_refusal-no.ensures c.if-no-ne-DONE.true)
+-- A value that is not refused has the numbers of its dimensions.
+counts : (c : In_ok-value_refusal) → let a = c.args in Valued a.shape.dims (length a.a.now)
+counts c = (valued _ _ [] c.in_ok-value_refusal.ensures.0).0
 
-pub sum_small-value-requires : goal.sum_small-value-requires
-sum_small-value-requires c =
-    let s = c.args in
-    let v : Valued s.shape.dims (length s.a.now) = (valued _ _ [] (sym c.value_refusal-no.ensures ∙ c.if-no-ne-DONE.false)).0 in
-    (omega arith, v.counted)
+pub returns-in_err-value_refusal : goal.returns-in_err-value_refusal
+unfolding squared_magnitude
+returns-in_err-value_refusal c =
+    let p = err_from_is_err_and c.from_residual.result c.from_residual.ensures.1 in
+    let f = c.in_err-value_refusal in
+    rw (p.1, p.2) (answered_err (λ (o : Real). o.number) (λ o. o.value) refused_real _ _ f.field-0.0 refl f.ensures)
 
-pub sum_large-value-requires : goal.sum_large-value-requires
-sum_large-value-requires c =
-    let s = c.args in
-    let v : Valued s.shape.dims (length s.a.now) = (valued _ _ [] (sym c.value_refusal-no.ensures ∙ c.if-no-ne-DONE.false)).0 in
-    (v.small, v.counted)
+pub sum_in-requires : goal.sum_in-requires
+sum_in-requires c =
+    let v = counts (goal.at.sum_in-requires c).In_ok-value_refusal in
+    (v.small, omega (arith, pow_mono {j = 6} c.if-shape-le6.true), omega arith, v.counted)
 
 pub returns-then-shape-le6 : goal.returns-then-shape-le6
 unfolding squared_magnitude
-returns-then-shape-le6 c = rw c.sum_small-value.ensures (sym (unless_done refused_real _ _ _ c.value_refusal-no.ensures c.if-no-ne-DONE.false))
+returns-then-shape-le6 c = answered_ok (λ (o : Real). o.number) (λ o. o.value) refused_real _ _ _ refl c.in_ok-value_refusal.ensures.0 c.sum_in.ensures
 
-pub returns-else-shape-le6 : goal.returns-else-shape-le6
+pub sum_in-requires-2 : goal.sum_in-requires-2
+sum_in-requires-2 c =
+    let v = counts (goal.at.sum_in-requires-2 c).In_ok-value_refusal in
+    (v.small, omega (arith, pow_mono {j = 9} v.small), omega arith, v.counted)
+
+pub returns : goal.returns
 unfolding squared_magnitude
-returns-else-shape-le6 c = rw c.sum_large-value.ensures (sym (unless_done refused_real _ _ _ c.value_refusal-no.ensures c.if-no-ne-DONE.false))
+returns c = answered_ok (λ (o : Real). o.number) (λ o. o.value) refused_real _ _ _ refl c.in_ok-value_refusal.ensures.0 c.sum_in-2.ensures

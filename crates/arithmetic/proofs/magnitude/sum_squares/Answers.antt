@@ -10,11 +10,10 @@ use lib.Ieee.{Float, nan, binary64, of_bits, of_fields, add, mul, of_int}
 use lib.IntN.{pos}
 use lib.ListN.{get_or}
 use Rattle.clifford.specs.Sign.{sign}
-use Rattle.masks.specs.declared.flavor.Flavor.{Flavor}
 use Rattle.masks.proofs.OrderLaws.{order_at}
 use Rattle.product.specs.Pairwise.{mask_at}
 use Rattle.arithmetic.specs.Magnitude.{weight, weighed, weighed_sum}
-use Rattle.arithmetic.proofs.MagnitudeLaws.{Squared, weight_by}
+use Rattle.arithmetic.proofs.MagnitudeLaws.{weight_by}
 use Rattle.arithmetic.proofs.magnitude.sum_squares.Goals.{After-weight_of}
 use Rattle.arithmetic.proofs.magnitude.sum_squares.Goals as goal
 
@@ -26,25 +25,19 @@ module _ (c : After-weight_of) where
   within : i < 2 ^ c.args.dims
   within = omega (arith, c.requires.1)
 
-  weighs : (f : Flavor) → Squared f c.squares_of-s.result.null c.squares_of-s.result.lower
-      → c.weight_of.result ≡ of_int binary64 (weight f c.args.dims (mask_at c.args.dims i))
-  weighs f h =
+  weighs : c.weight_of.result ≡ of_int binary64 (weight c.args.flavor c.args.dims (mask_at c.args.dims i))
+  weighs =
       let s = c.squares_of-s.result in
       c.weight_of.ensures
       ∙ ap (λ (m : ℕ). of_int binary64 (cond (eqb (bit_and m s.null) 0) (sign (ones (bit_and m s.lower))) (pos 0))) (c.requires.3 i within)
-      ∙ ap (of_int binary64) (sym (weight_by f s.null s.lower c.args.dims (mask_at c.args.dims i) h c.requires.0 (order_at c.args.dims i within).low))
+      ∙ ap (of_int binary64) (sym (weight_by c.args.flavor s.null s.lower c.args.dims (mask_at c.args.dims i) c.squares_of-s.ensures c.requires.0 (order_at c.args.dims i within).low))
 
 pub loop-i-init : goal.loop-i-init
 unfolding weighed_sum of_bits of_fields
-loop-i-init c = (omega arith, (λ f h. refl))
+loop-i-init c = refl
 
 pub loop-i-preserved : goal.loop-i-preserved
 unfolding weighed_sum weighed
 loop-i-preserved c =
     let x = get_or c.args.a.now (i c) nan in
-    (omega arith, (λ f h. rw (add-one (i c)) (ap₂ (λ (y w : Float). add binary64 y (mul binary64 (mul binary64 w x) x)) (c.loop-i.invariant.1 f h) (weighs c f h))))
-
-pub returns : goal.returns
-returns c =
-    let e : c.loop-i.i ≡ 2 ^ c.args.dims = omega (arith, c.requires.1) in
-    c.loop-i.invariant.1 c.args.flavor c.squares_of-s.ensures ∙ ap (weighed_sum c.args.flavor c.args.dims c.args.a.now) e
+    rw (add-one (i c)) (ap₂ (λ (y w : Float). add binary64 y (mul binary64 (mul binary64 w x) x)) c.loop-i.invariant (weighs c))

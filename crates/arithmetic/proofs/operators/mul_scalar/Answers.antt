@@ -4,11 +4,12 @@ use mathlib.Core.List.{[], map}
 use Prim.Native.Nat.{◌^◌}
 use native.Mathlib.Omega.{arith}
 use lib.Ieee.{Float, binary64, eq, mul}
-use Rattle.masks.proofs.OrderLaws.{blades_counted}
+use Rattle.std.proofs.lemmas.Result.{err_from_is_err_and}
+use Rattle.masks.proofs.OrderLaws.{none_counted}
 use Rattle.arithmetic.specs.Scale.{unity, scaled}
 use Rattle.arithmetic.proofs.KeptLaws.{scaled_length}
 use Rattle.arithmetic.proofs.OperatorsLaws.{conformed_facts, changed_none, changed}
-use Rattle.arithmetic.proofs.operators.mul_scalar.Goals.{After-blade_count-n}
+use Rattle.arithmetic.proofs.operators.mul_scalar.Goals.{After-blades_or_none}
 use Rattle.arithmetic.proofs.operators.mul_scalar.Goals as goal
 
 -- Nothing, multiplied, is nothing.
@@ -21,19 +22,19 @@ scaled_none f = go (eq f unity)
     go false = refl
 
 -- The count of the blades is that of what was conformed.
-module _ (b : After-blade_count-n) where
-  counted : b.blade_count-n.result.count ≡ 2 ^ b.conform_to-r.result.shape.dims
-  counted = blades_counted b.blade_count-n.ensures (conformed_facts _ _ _ _ _ _ b.conform_to-r.ensures b.if-r-eq-DONE.true).small
+counted : (b : After-blades_or_none) → b.blades_or_none.result ≡ 2 ^ b.in_ok-shape.shape.dims
+counted b = none_counted b.blades_or_none.ensures (conformed_facts _ _ _ _ _ _ b.in_ok-shape.ensures).small
 
 pub scale-requires : goal.scale-requires
-scale-requires c = omega (arith, counted (goal.at.scale-requires c).After-blade_count-n, (conformed_facts _ _ _ _ _ _ c.conform_to-r.ensures c.if-r-eq-DONE.true).roomy)
+scale-requires c = omega (arith, counted (goal.at.scale-requires c).After-blades_or_none, (conformed_facts _ _ _ _ _ _ c.in_ok-shape.ensures).roomy)
 
-pub returns-then-r-eq-DONE : goal.returns-then-r-eq-DONE
-returns-then-r-eq-DONE c =
+pub returns-in_err-shape : goal.returns-in_err-shape
+returns-in_err-shape c =
     let f = c.args.f in
-    changed _ _ _ _ _ _ c.conform_to-r.ensures (scaled f) c.blade_count-n.result.count _ c.if-r-eq-DONE.true (counted (goal.at.returns-then-r-eq-DONE c).After-blade_count-n) (scaled_length f) c.scale.ensures
+    let p = err_from_is_err_and c.from_residual.result c.from_residual.ensures.1 in
+    rw (p.1, p.2) (changed_none _ _ _ _ _ _ c.in_err-shape.ensures (scaled f) (scaled_none f))
 
-pub returns-else-r-eq-DONE : goal.returns-else-r-eq-DONE
-returns-else-r-eq-DONE c =
+pub returns : goal.returns
+returns c =
     let f = c.args.f in
-    changed_none _ _ _ _ _ _ c.conform_to-r.ensures (scaled f) (scaled_none f) c.if-r-eq-DONE.false
+    changed _ _ _ _ _ _ c.in_ok-shape.ensures (scaled f) c.blades_or_none.result _ (counted (goal.at.returns c).After-blades_or_none) (scaled_length f) c.scale.ensures

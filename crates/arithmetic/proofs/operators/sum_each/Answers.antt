@@ -1,20 +1,16 @@
-use mathlib.Core.Path.{◌≡◌, refl, sym, ap, ◌∙◌}
+use mathlib.Core.Path.{◌≡◌, sym, ap, ◌∙◌}
 use mathlib.Core.List.{List}
 use Prim.Native.Nat.{ℕ, ◌+◌, ◌≤◌, ◌<◌}
 use native.Mathlib.Omega.{arith}
 use lib.Ieee.{Float, nan}
 use lib.ListN.{length, get_or, set, take}
 use lib.Seq.{length-take-le, get_or-take}
-use Rattle.masks.proofs.ListLaws.{front, front_length, front_step, front_all}
+use Rattle.masks.proofs.ListLaws.{front, front_step, front_all}
 use Rattle.product.proofs.ListLaws.{front_next}
-use Rattle.arithmetic.specs.declared.operators.Sum.{Sum}
-use Rattle.arithmetic.specs.Operators.{summed, summed_each}
+use Rattle.arithmetic.specs.Operators.{Sum, summed}
 use Rattle.arithmetic.proofs.OperatorsLaws.{each_length, each_at}
+use Rattle.arithmetic.proofs.operators.sum_each.Invariants.{sums}
 use Rattle.arithmetic.proofs.operators.sum_each.Goals as goal
-
--- ---- The sums of the numbers at the front with those of b.
-abbrev sums : Sum → List Float → List Float → List Float
-sums op b out = summed_each op (take (length b) out) b
 
 module _ (op : Sum) (b out : List Float) (h : length b ≤ length out) where
   fronts : length (take (length b) out) ≡ length b
@@ -35,41 +31,15 @@ module _ (op : Sum) (b out : List Float) (h : length b ≤ length out) where
       let next : y ≡ get_or (sums op b out) k nan = q ∙ ap (λ (o : List Float). summed op (get_or o k nan) (get_or b k nan)) e ∙ sums_next k l in
       rw e (front_step k (sums op b out) nan out y next (omega (arith, sums_length)) (omega arith))
 
-  written_length : (k : ℕ) → k ≤ length b → length (front k (sums op b out) out) ≡ length out
-  written_length k l = front_length k (sums op b out) out (omega (arith, sums_length)) (omega arith)
-
-pub loop-k-init : goal.loop-k-init
-loop-k-init c = (omega arith, refl)
-
-pub bounds-out-k : goal.bounds-out-k
-bounds-out-k c =
-    let s = c.args in
-    let l = c.loop-k in
-    omega (arith, ap length l.invariant.1, written_length s.op s.b.now s.out.now (omega arith) l.k (omega arith))
-
-pub sum_of-requires : goal.sum_of-requires
-sum_of-requires c = tt
-
-pub bounds-out-k-in-loop-k : goal.bounds-out-k-in-loop-k
-bounds-out-k-in-loop-k c =
-    let s = c.args in
-    let l = c.loop-k in
-    omega (arith, ap length l.invariant.1, written_length s.op s.b.now s.out.now (omega arith) l.k (omega arith))
-
 pub loop-k-preserved : goal.loop-k-preserved
-loop-k-preserved c =
+loop-k-preserved g c op h =
     let s = c.args in
     let l = c.loop-k in
-    (omega arith, sums_step s.op s.b.now s.out.now (omega arith) l.k l.out c.sum_of.result (omega arith) l.invariant.1 c.sum_of.ensures)
-
-pub shape_of-out : goal.shape_of-out
-shape_of-out c =
-    let s = c.args in
-    let l = c.loop-k in
-    ap length l.invariant.1 ∙ written_length s.op s.b.now s.out.now (omega arith) l.k (omega arith)
+    sums_step op s.b.now s.out.now c.requires.room l.k l.out c.sum.result c.loop-k-test.true (l.invariant op h) (h _ _ _ c.sum.ensures)
 
 pub returns : goal.returns
-returns c =
+returns g c op h =
     let s = c.args in
     let l = c.loop-k in
-    l.invariant.1 ∙ front_all l.k (sums s.op s.b.now s.out.now) s.out.now (omega (arith, sums_length s.op s.b.now s.out.now (omega arith)))
+    let e : l.k ≡ length s.b.now = omega (arith, c.loop-k-test.false, l.auto.k-end) in
+    l.invariant op h ∙ front_all l.k (sums op s.b.now s.out.now) s.out.now (sums_length op s.b.now s.out.now c.requires.room ∙ sym e)

@@ -1,6 +1,6 @@
 use mathlib.Core.Path.{◌≡◌, sym, ap, ◌∙◌}
 use mathlib.Core.Bool.{Bool, true, false}
-use Prim.Native.Nat.{ℕ, ◌+◌}
+use Prim.Native.Nat.{◌+◌}
 use native.Mathlib.Omega.{arith}
 use lib.IntN.{ℤ}
 use mir.Syntax.{w32}
@@ -21,17 +21,15 @@ module _ (s : Shape) (z : ℤ) (f : SFits w32 z) (r : Bool) (e : r ≡ is_direct
   unfolding power_dims
   kept t = rw (sym tested ∙ t)
 
-  grown : (n : ℕ) → n ≡ added_dims s.flavor → r ≡ false → s.dims + n ≡ power_dims s (size_of z)
+  grown : r ≡ false → s.dims + added_dims s.flavor ≡ power_dims s (size_of z)
   unfolding power_dims
-  grown n a t = rw (sym tested ∙ t, a)
+  grown t = rw (sym tested ∙ t)
 
 pub returns-then-is_direct : goal.returns-then-is_direct
 returns-then-is_direct c = λ _. kept c.args.shape c.args.power c.ranges.power _ c.is_direct.ensures c.if-is_direct.true
 
-pub overflow_add-result : goal.overflow_add-result
-overflow_add-result c =
-    let a = c.args.shape in
-    record { fits = omega (arith, c.if-shape-gt-MAX_DIMS.false, c.added_dims.ensures, added_le a.flavor) }
-
 pub returns : goal.returns
-returns c = λ _. grown c.args.shape c.args.power c.ranges.power _ c.is_direct.ensures _ c.added_dims.ensures c.if-is_direct.false
+returns c = λ h.
+    let s = c.args.shape in
+    let sum : c.saturating_add.result ≡ s.dims + added_dims s.flavor = omega (arith, c.saturating_add.ensures, c.added_dims.ensures, added_le s.flavor) in
+    sum ∙ grown s c.args.power c.ranges.power _ c.is_direct.ensures c.if-is_direct.false

@@ -1,26 +1,22 @@
-use mathlib.Core.Path.{◌≡◌, sym}
-use mathlib.Core.List.{List}
+use mathlib.Core.Path.{◌≡◌, sym, ap}
+use mathlib.Core.List.{List, ◌++◌}
 use Prim.Native.Nat.{ℕ, ◌+◌, ◌^◌, ◌≤◌}
 use native.Mathlib.Omega.{arith}
 use borrow.Author.Tests.{eq-eqb, ne_eqb}
 use lib.Ieee.{Float}
+use lib.ListN.{length, drop}
+use lib.Seq.{length-take-le}
 use Rattle.masks.specs.declared.shape.Shape.{Shape}
 use Rattle.masks.specs.Flavor.{added_dims}
 use Rattle.masks.specs.Outcome.{laid}
 use Rattle.arithmetic.specs.Inverse.{square_of}
 use Rattle.arithmetic.specs.Power.{is_direct, power_dims, by_digits, raised_to}
-use Rattle.arithmetic.proofs.PowerLaws.{copied_front}
 use Rattle.arithmetic.proofs.power.raise.Goals as goal
 
 module _ (s : Shape) (p : ℕ) (x : List Float) where
-  module _ (e : p ≡ 1) where
-    dims_one : power_dims s p ≡ s.dims
-    unfolding power_dims is_direct
-    dims_one = rw (eq-eqb p 1 e)
-
-    raised_one : raised_to s p x ≡ x
-    unfolding raised_to
-    raised_one = rw (eq-eqb p 1 e)
+  raised_one : p ≡ 1 → raised_to s p x ≡ x
+  unfolding raised_to
+  raised_one e = rw (eq-eqb p 1 e)
 
   module _ (h : p ≡ 1 → ⊥) where
     module _ (e : p ≡ 2) where
@@ -50,26 +46,28 @@ laid_as out e h = rw e h
 
 pub returns-then-power-eq1 : goal.returns-then-power-eq1
 returns-then-power-eq1 c =
-    let e = c.if-power-eq1.true in
     let a = c.args in
-    laid_as a.out.now (raised_one a.shape a.power a.x.now e)
-    (copied_front a.shape a.x.now a.out.now _ c.set_dims.result
-    (record { small = c.requires.power_bound.1; counted = c.requires.x_len.0; roomy = room (dims_one a.shape a.power a.x.now e) c.requires.x_len.1 }) c.set_dims.ensures)
+    laid_as a.out.now (raised_one a.shape a.power a.x.now c.if-power-eq1.true) (ap (λ (xs : List Float). xs ++ drop (length a.x.now) a.out.now) c.copy_from_slice.ensures.after)
 
-pub put_square-requires : goal.put_square-requires
-put_square-requires c =
+pub put_square-requires-clause-dims_bound : goal.put_square-requires-clause-dims_bound
+put_square-requires-clause-dims_bound c =
     let d = dims_two c.args.shape c.args.power c.args.x.now c.if-power-eq1.false c.if-power-eq2.true in
-    record { in_order = c.requires.in_order; dims_bound = (c.requires.power_bound.1, c.requires.x_len.0, room d c.requires.x_len.1) }
+    (c.requires.power_bound.1, c.requires.x_len.0, room d c.requires.x_len.1)
 
 pub returns-then-power-eq2 : goal.returns-then-power-eq2
 returns-then-power-eq2 c =
     let a = c.args in
     laid_as a.out.now (raised_two a.shape a.power a.x.now c.if-power-eq1.false c.if-power-eq2.true) c.put_square.ensures
 
-pub raise_by_digits-requires : goal.raise_by_digits-requires
-raise_by_digits-requires c =
+pub raise_by_digits-requires-clause-flavor_bound : goal.raise_by_digits-requires-clause-flavor_bound
+raise_by_digits-requires-clause-flavor_bound c =
     let d = dims_other c.args.shape c.args.power c.args.x.now c.if-power-eq1.false c.if-power-eq2.false in
-    record { in_order = c.requires.in_order; flavor_bound = (omega (arith, d, c.requires.power_bound.0), c.requires.power_bound.2); x_len = (c.requires.x_len.0, room d c.requires.x_len.1) }
+    (omega (arith, d, c.requires.power_bound.0), c.requires.power_bound.2)
+
+pub raise_by_digits-requires-clause-x_len : goal.raise_by_digits-requires-clause-x_len
+raise_by_digits-requires-clause-x_len c =
+    let d = dims_other c.args.shape c.args.power c.args.x.now c.if-power-eq1.false c.if-power-eq2.false in
+    (c.requires.x_len.0, room d c.requires.x_len.1)
 
 pub returns : goal.returns
 returns c =

@@ -1,7 +1,6 @@
 use Prim.Native.Nat.{ℕ, suc, ◌+◌, ◌^◌, ◌≤◌}
 use native.Mathlib.Nat.{pow-suc}
 use native.Mathlib.Omega.{arith}
-use lib.ListN.{length}
 use lib.Pow.{pow_mono}
 use Rattle.masks.specs.Flavor.{added_dims}
 use Rattle.masks.proofs.OrderLaws.{blades_le}
@@ -12,23 +11,14 @@ use Rattle.arithmetic.proofs.power.raise_by_digits.Goals as goal
 twice : (d a : ℕ) → a ≤ 1 → 2 ^ d ≤ 32 → 2 ^ (d + a) ≤ 64
 twice d a h l = let m : 2 ^ (d + a) ≤ 2 ^ suc d = pow_mono (omega arith) in omega (arith, m, pow-suc 2 d)
 
-pub raise_wide-requires : goal.raise_wide-requires
-raise_wide-requires c =
+pub raise_wide-requires-clause-flavor_bound : goal.raise_wide-requires-clause-flavor_bound
+raise_wide-requires-clause-flavor_bound c =
     let p = c.requires in
-    let l = c.if-x-le32.true in
-    let r = twice c.args.shape.dims (added_dims c.args.shape.flavor) (added_le c.args.shape.flavor) (omega (arith, l, p.x_len.0)) in
-    record { in_order = p.in_order; flavor_bound = (p.flavor_bound.0, p.flavor_bound.1, r); x_in_bounds = (l, r); x_len = p.x_len }
+    let f = c.args.shape.flavor in
+    (p.flavor_bound.0, p.flavor_bound.1, omega (arith, twice c.args.shape.dims (added_dims f) (added_le f) (omega (arith, c.if-x-le32.true, p.x_len.0))))
 
-pub returns-then-x-le32 : goal.returns-then-x-le32
-returns-then-x-le32 c = c.raise_wide.ensures
+pub raise_wide-requires-else-x-le32-clause-flavor_bound : goal.raise_wide-requires-else-x-le32-clause-flavor_bound
+raise_wide-requires-else-x-le32-clause-flavor_bound c = let f = c.requires.flavor_bound in (f.0, f.1, omega (arith, blades_le _ f.0))
 
-pub raise_wide-requires-2 : goal.raise_wide-requires-2
-raise_wide-requires-2 c =
-    let p = c.requires in
-    let small : c.args.shape.dims ≤ 9 = omega (arith, p.flavor_bound.0) in
-    let l : length c.args.x.now ≤ 512 = omega (arith, p.x_len.0, blades_le _ small) in
-    let r = blades_le _ p.flavor_bound.0 in
-    record { in_order = p.in_order; flavor_bound = (p.flavor_bound.0, p.flavor_bound.1, r); x_in_bounds = (l, r); x_len = p.x_len }
-
-pub returns : goal.returns
-returns c = c.raise_wide-2.ensures
+pub raise_wide-requires-else-x-le32-clause-x_in_bounds : goal.raise_wide-requires-else-x-le32-clause-x_in_bounds
+raise_wide-requires-else-x-le32-clause-x_in_bounds c = (omega (arith, c.requires.x_len.0, blades_le c.args.shape.dims (omega (arith, c.requires.flavor_bound.0))), omega arith, omega arith)

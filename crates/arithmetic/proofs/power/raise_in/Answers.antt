@@ -1,23 +1,25 @@
 use mathlib.Core.Path.{◌≡◌, refl, sym, ap, subst, ◌∙◌}
 use mathlib.Core.Bool.{cond}
-use mathlib.Core.List.{List, [], ◌∷◌}
-use Prim.Native.Nat.{ℕ, ◌+◌, ◌-◌, ◌^◌, ◌/◌, ◌%◌, ◌≤◌, ◌<◌}
+use mathlib.Core.List.{List, [], ◌∷◌, ◌++◌}
+use Prim.Native.Nat.{ℕ, ◌+◌, ◌^◌, ◌/◌, ◌%◌, ◌≤◌, ◌<◌}
 use native.Mathlib.Omega.{arith}
 use borrow.Author.Tests.{eq-eqb, ne_eqb}
 use lib.Dec.{eqb}
 use lib.Ieee.{Float, binary64, of_bits, of_fields}
-use lib.ListN.{length, take}
+use lib.ListN.{length, take, drop}
 use lib.Pow.{pow_pos, pow_mono}
 use lib.Seq.{length-take-le}
-use Rattle.masks.specs.declared.outcome.Answer.{Answer}
+use Rattle.std.specs.Prelude.{Result, Ok, Err, IsOk}
+use Rattle.masks.specs.declared.outcome.Refusal.{Refusal}
 use Rattle.masks.specs.declared.shape.Shape.{Shape}
 use Rattle.masks.specs.Build.{at_grade, scalar}
 use Rattle.masks.specs.Flavor.{added_dims}
 use Rattle.masks.specs.Order.{start}
-use Rattle.masks.specs.Outcome.{Outcome, Gives, value, laid}
+use Rattle.masks.specs.Outcome.{Outcome, Gives, IsAnswer, value, laid}
 use Rattle.masks.specs.Shape.{with_dims}
 use Rattle.masks.proofs.BuildLaws.{length_grade_set, one_built}
 use Rattle.masks.proofs.ListLaws.{laid_length, take_laid}
+use Rattle.masks.proofs.OutcomeLaws.{refuses}
 use Rattle.product.proofs.ListLaws.{laid_over}
 use Rattle.masks.proofs.OrderLaws.{blades_le}
 use Rattle.product.specs.declared.mode.Mode.TheVariants.{All}
@@ -28,7 +30,7 @@ use Rattle.arithmetic.specs.Operators.{multiplication}
 use Rattle.arithmetic.specs.Dual.{ample}
 use Rattle.arithmetic.specs.Inverse.{square_of}
 use Rattle.arithmetic.specs.Power.{raised, by_digits}
-use Rattle.arithmetic.proofs.PowerLaws.{raised_none, raised_next, copied_front, grown_length}
+use Rattle.arithmetic.proofs.PowerLaws.{raised_none, raised_next, grown_length}
 use Rattle.arithmetic.proofs.power.raise_in.Invariants.{Left, kept}
 use Rattle.arithmetic.proofs.power.raise_in.Goals.{At-loop-p, Joined-p-eq1, then-p-eq1, else-p-eq1}
 use Rattle.arithmetic.proofs.power.raise_in.Goals as goal
@@ -128,6 +130,11 @@ module _ {s : Shape} {power : ℕ} {x out₀ base₀ out base : List Float} wher
           same = none m.b ∙ sym (none (square_of s m.b)) ∙ m.same;
         }
 
+-- An answer without a refusal.
+is_done : {A : Type 0} (k : ℕ) (a : A) (r : Result A Refusal) → IsAnswer k a r → k ≡ 0 → IsOk r
+is_done k a (Ok x) h z = refl
+is_done k a (Err e) h z = absurd (refuses e (sym h ∙ z))
+
 -- ---- the start and the end
 module _ (s : Shape) (h : (grown s).dims ≤ 9) where
   built : (room : ℕ) → 2 ^ (grown s).dims ≤ room → scalar s.dims unity s.flavor room ≡ value (grown s) (at_grade (grown s).dims 0 (unity ∷ []))
@@ -140,9 +147,14 @@ module _ (s : Shape) (h : (grown s).dims ≤ 9) where
       let l : 0 + 1 ≤ 2 ^ (grown s).dims = omega (arith, pow_pos (grown s).dims) in
       ap (λ (o : Outcome). length o.coefs) (built ample (blades_le _ h)) ∙ length_grade_set (grown s).dims 0 (unity ∷ []) l
 
-  module _ {out after : List Float} {q : Answer} (l : 2 ^ (grown s).dims ≤ length out) (g : Gives (scalar s.dims unity s.flavor (length out)) q out after) where
-    begun_shape : q.shape ≡ grown s
-    begun_shape = ap (λ (a : Answer). a.shape) g.answered ∙ ap (λ (o : Outcome). o.shape) (built (length out) l)
+  module _ {out after : List Float} {q : Result Shape Refusal} (l : 2 ^ (grown s).dims ≤ length out) (g : Gives (scalar s.dims unity s.flavor (length out)) q out after) where
+    begun_done : IsOk q
+    begun_done = is_done _ _ q g.answered (ap (λ (o : Outcome). o.number) (built (length out) l))
+
+    begun_shape : (u : Shape) → q ≡ Ok u → u ≡ grown s
+    begun_shape u e =
+        let o = scalar s.dims unity s.flavor (length out) in
+        (subst (λ (r : Result Shape Refusal). IsAnswer o.number o.shape r) e g.answered).1 ∙ ap (λ (o : Outcome). o.shape) (built (length out) l)
 
     begun : after ≡ laid (one s) out
     begun = g.left ∙ ap (λ (o : Outcome). laid o.coefs out) (built (length out) l ∙ sym (built ample (blades_le _ h)))
@@ -170,9 +182,13 @@ module _ (s : Shape) (h : (grown s).dims ≤ 9) where
         ∙ ap (λ (ys : List Float). laid ys out) (sym (ap (λ (q : ℕ). raised s t.k q t.r t.b) z ∙ raised_none s t.k t.r t.b) ∙ t.same)
 
 -- The shape that the call before the loop gives.
-shape_is : (c : At-loop-p) → c.scalar-start.result.shape ≡ grown c.args.shape
+shape_is : (c : At-loop-p) → c.unwrap-grown.result ≡ grown c.args.shape
 unfolding of_bits of_fields
-shape_is c = begun_shape c.args.shape c.requires.flavor_bound.0 c.requires.x_len.1 c.scalar-start.ensures
+shape_is c = begun_shape c.args.shape c.requires.flavor_bound.0 c.requires.x_len.1 c.scalar.ensures c.unwrap-grown.result c.unwrap-grown.ensures
+
+-- The copy is at the front of the base's array, which stays as long.
+base_long : (x base copy : List Float) → copy ≡ x → length x ≤ length base → length (copy ++ drop (length x) base) ≡ length base
+base_long x base copy e h = ap (λ (ys : List Float). length (ys ++ drop (length x) base)) e ∙ laid_length x base h
 
 -- Room for the value's dimensions is room for the base's.
 base_room : (d n : ℕ) → d ≤ n → 2 ^ d ≤ 2 ^ n
@@ -183,20 +199,20 @@ room : {m n j k : ℕ} → m ≡ n → 2 ^ n ≤ j → k ≡ j → 2 ^ m ≤ k
 room e h q = rw (e, q) h
 
 -- After the test of a digit.
-digit : (c : Joined-p-eq1) → c.scalar-start.result.shape ≡ grown c.args.shape
-    → Left c.args.shape c.args.power c.args.x.now c.scalar-start.new.out c.set_dims.new.out (square_of c.args.shape) c.if-p-eq1.out c.loop-p.base (c.loop-p.p / 2)
+digit : (c : Joined-p-eq1) → c.unwrap-grown.result ≡ grown c.args.shape
+    → Left c.args.shape c.args.power c.args.x.now c.scalar.new.out (c.copy_from_slice.new.self ++ drop (length c.args.x.now) c.args.base.now) (square_of c.args.shape) c.if-p-eq1.out c.loop-p.base (c.loop-p.p / 2)
 digit c g =
     let t = c.loop-p.invariant in
     elim c.if-p-eq1.branch [
       | then-p-eq1 w ↦
-          odd t c.loop-p-test.true c.if-p-eq1.out c.scalar-start.result.shape (length c.args.x.now - 0) c.requires.flavor_bound.0 g
-          (omega (arith, c.requires.x_len.0)) w.if-p-eq1.true (w.out-is ∙ w.mul_front.ensures)
+          odd t c.loop-p-test.true c.if-p-eq1.out c.unwrap-grown.result (length c.args.x.now) c.requires.flavor_bound.0 g
+          c.requires.x_len.0 w.if-p-eq1.true (w.out-is ∙ w.mul_front.ensures)
       | else-p-eq1 w ↦ even t c.loop-p-test.true c.if-p-eq1.out w.if-p-eq1.false w.out-is
     ]
 
--- Half of a number above zero is less.
-less : (p : ℕ) → 0 < p → p / 2 < p
-less p h = omega arith
+pub unwrap-grown-requires : goal.unwrap-grown-requires
+unfolding of_bits of_fields
+unwrap-grown-requires c = begun_done c.args.shape c.requires.flavor_bound.0 c.requires.x_len.1 c.scalar.ensures
 
 pub loop-p-init : goal.loop-p-init
 unfolding of_bits of_fields
@@ -204,33 +220,32 @@ loop-p-init c =
     let s = c.args.shape in
     let p = c.requires in
     let x = c.args.x.now in
-    let small : s.dims ≤ 9 = omega (arith, p.flavor_bound.0) in
-    let base_is : c.set_dims.new.out ≡ laid x c.args.base.now = copied_front s x c.args.base.now c.set_dims.new.out c.set_dims.result (record { small = small; counted = p.x_len.0; roomy = omega (arith, p.x_len.0, p.flavor_bound.2) }) c.set_dims.ensures in
-    begins s p.flavor_bound.0 c.args.power x c.args.out.now c.scalar-start.new.out (begun s p.flavor_bound.0 p.x_len.1 c.scalar-start.ensures) c.args.base.now c.set_dims.new.out p.flavor_bound.1 p.x_len.0 base_is
+    let base_is = ap (λ (xs : List Float). xs ++ drop (length x) c.args.base.now) c.copy_from_slice.ensures.after in
+    begins s p.flavor_bound.0 c.args.power x c.args.out.now c.scalar.new.out (begun s p.flavor_bound.0 p.x_len.1 c.scalar.ensures) c.args.base.now _ p.flavor_bound.1 p.x_len.0 base_is
 
-pub slice_bounds-mul_front-end : goal.slice_bounds-mul_front-end
-slice_bounds-mul_front-end c = omega (arith, c.requires.flavor_bound.2, c.loop-p.auto.base, c.set_dims.auto.out)
+pub mul_front-requires-clause-in_order : goal.mul_front-requires-clause-in_order
+mul_front-requires-clause-in_order c =
+    subst (λ (n : ℕ). InOrder c.args.wide.now n) (sym (ap (λ (u : Shape). u.dims) (shape_is (goal.at.mul_front-requires-clause-in_order c).At-loop-p))) c.requires.in_order.1
 
-pub mul_front-requires : goal.mul_front-requires
-mul_front-requires c =
+pub mul_front-requires-clause-grown_value : goal.mul_front-requires-clause-grown_value
+mul_front-requires-clause-grown_value c =
+    let g = shape_is (goal.at.mul_front-requires-clause-grown_value c).At-loop-p in
+    (g, omega (arith, ap (λ (u : Shape). u.dims) g, c.requires.flavor_bound.0))
+
+pub mul_front-requires-clause-x_len : goal.mul_front-requires-clause-x_len
+mul_front-requires-clause-x_len c =
     let p = c.requires in
-    let g = shape_is (goal.at.mul_front-requires c).At-loop-p in
-    let d = ap (λ (u : Shape). u.dims) g in
-    let e : length c.args.x.now - 0 ≤ length c.loop-p.base = omega (arith, p.flavor_bound.2, c.loop-p.auto.base, c.set_dims.auto.out) in
-    record {
-      in_order = subst (λ (n : ℕ). InOrder c.args.wide.now n) (sym d) p.in_order.1;
-      grown_value = (g, omega (arith, d, p.flavor_bound.0));
-      x_len = (length-take-le _ c.loop-p.base e ∙ omega (arith, p.x_len.0), room d p.x_len.1 (c.loop-p.auto.out ∙ c.scalar-start.auto.out), room d p.flavor_bound.3 c.loop-p.auto.next);
-    }
+    let d = ap (λ (u : Shape). u.dims) (shape_is (goal.at.mul_front-requires-clause-x_len c).At-loop-p) in
+    let l = base_long c.args.x.now c.args.base.now c.copy_from_slice.new.self c.copy_from_slice.ensures.after p.flavor_bound.2 in
+    let e : length c.args.x.now ≤ length c.loop-p.base = omega (arith, p.flavor_bound.2, c.loop-p.auto.base, l) in
+    (length-take-le _ c.loop-p.base e ∙ p.x_len.0, room d p.x_len.1 (c.loop-p.auto.out ∙ c.scalar.auto.out), room d p.flavor_bound.3 c.loop-p.auto.next)
 
-pub square_front-requires : goal.square_front-requires
-square_front-requires c =
+pub square_front-requires-clause-dims_bound : goal.square_front-requires-clause-dims_bound
+square_front-requires-clause-dims_bound c =
     let p = c.requires in
     let m = base_room c.args.shape.dims (grown c.args.shape).dims (omega arith) in
-    record {
-      in_order = p.in_order.0;
-      dims_bound = (omega (arith, p.flavor_bound.0), p.x_len.0, omega (arith, p.flavor_bound.2, c.loop-p.auto.base, c.set_dims.auto.out), omega (arith, m, p.x_len.0, p.flavor_bound.3, c.if-p-eq1.auto.next, c.loop-p.auto.next));
-    }
+    let l = base_long c.args.x.now c.args.base.now c.copy_from_slice.new.self c.copy_from_slice.ensures.after p.flavor_bound.2 in
+    (omega (arith, p.flavor_bound.0), p.x_len.0, omega (arith, p.flavor_bound.2, c.loop-p.auto.base, l), omega (arith, m, p.x_len.0, p.flavor_bound.3, c.if-p-eq1.auto.next, c.loop-p.auto.next))
 
 pub loop-p-preserved-then-p-gt0 : goal.loop-p-preserved-then-p-gt0
 loop-p-preserved-then-p-gt0 c =
@@ -243,15 +258,9 @@ loop-p-preserved c =
     let a = goal.at.loop-p-preserved c in
     stops (digit a.Joined-p-eq1 (shape_is a.At-loop-p)) c.if-p-gt0.false
 
-pub loop-p-smaller-then-p-gt0 : goal.loop-p-smaller-then-p-gt0
-loop-p-smaller-then-p-gt0 c = less _ c.loop-p-test.true
-
-pub loop-p-smaller : goal.loop-p-smaller
-loop-p-smaller c = less _ c.loop-p-test.true
-
 pub returns : goal.returns
 unfolding of_bits of_fields
 returns c =
     let s = c.args.shape in
     let p = c.requires in
-    ends s p.flavor_bound.0 c.args.power c.args.x.now c.args.out.now c.scalar-start.new.out (begun s p.flavor_bound.0 p.x_len.1 c.scalar-start.ensures) _ _ _ _ c.loop-p-test.false c.loop-p.invariant
+    ends s p.flavor_bound.0 c.args.power c.args.x.now c.args.out.now c.scalar.new.out (begun s p.flavor_bound.0 p.x_len.1 c.scalar.ensures) _ _ _ _ c.loop-p-test.false c.loop-p.invariant

@@ -1,7 +1,6 @@
 use mathlib.Core.Path.{◌≡◌, sym, ap, ◌∙◌}
 use mathlib.Core.List.{List}
-use Prim.Native.Nat.{ℕ, ◌-◌, ◌^◌}
-use native.Mathlib.Omega.{arith}
+use Prim.Native.Nat.{ℕ, ◌^◌}
 use lib.Ieee.{Float}
 use lib.ListN.{length, take}
 use Rattle.masks.specs.declared.shape.Shape.{Shape}
@@ -10,40 +9,16 @@ use Rattle.masks.proofs.ListLaws.{take_laid}
 use Rattle.arithmetic.specs.Inverse.{inverse_of}
 use Rattle.arithmetic.specs.Power.{raised_to}
 use Rattle.arithmetic.proofs.InverseLaws.{inverse_length}
-use Rattle.arithmetic.proofs.power.raise_inverse.Goals.{After-put_inverse}
 use Rattle.arithmetic.proofs.power.raise_inverse.Goals as goal
 
--- The inverse, at the front of the array.
-module _ (c : After-put_inverse) where
-  long : length (inverse_of c.args.shape c.args.a.now) ≡ 2 ^ c.args.shape.dims
-  long = inverse_length c.args.shape c.args.a.now c.requires.a_len.0 c.requires.power_bound.3
-
-  whole : length c.args.a.now - 0 ≡ 2 ^ c.args.shape.dims
-  whole = omega (arith, c.requires.a_len.0)
-
-  held : take (length c.args.a.now - 0) c.put_inverse.new.out ≡ inverse_of c.args.shape c.args.a.now
-  held = ap (take (length c.args.a.now - 0)) c.put_inverse.ensures ∙ take_laid (length c.args.a.now - 0) (inverse_of c.args.shape c.args.a.now) _ (long ∙ sym whole)
-
-raised_of : (s : Shape) (n : ℕ) (out after : List Float) {x y : List Float} → x ≡ y → after ≡ laid (raised_to s n x) out → after ≡ laid (raised_to s n y) out
-raised_of s n out after e q = q ∙ ap (λ (xs : List Float). laid (raised_to s n xs) out) e
-
-pub put_inverse-requires : goal.put_inverse-requires
-put_inverse-requires c = record { in_order = c.requires.in_order; dims_bound = (c.requires.power_bound.1, c.requires.a_len.0, omega (arith, c.requires.a_len.0, c.requires.a_len.1)) }
-
-pub slice_bounds-raise-end : goal.slice_bounds-raise-end
-slice_bounds-raise-end c = omega (arith, c.requires.a_len.1, c.put_inverse.auto.out)
-
-pub raise-requires : goal.raise-requires
-raise-requires c =
-    let p = c.requires in
-    let a = (goal.at.raise-requires c).After-put_inverse in
-    record {
-      in_order = p.in_order;
-      power_bound = (p.power_bound.0, p.power_bound.1, p.power_bound.2);
-      x_len = (ap length (held a) ∙ long a, p.a_len.2);
-    }
+-- The inverse, at the front of an array, is raised.
+raised_of : (s : Shape) (n : ℕ) (a array held out after : List Float) → length a ≡ 2 ^ s.dims → length (inverse_of s a) ≡ 2 ^ s.dims → held ≡ laid (inverse_of s a) array
+    → after ≡ laid (raised_to s n (take (length a) held)) out → after ≡ laid (raised_to s n (inverse_of s a)) out
+raised_of s n a array held out after c l e q =
+    q ∙ ap (λ (xs : List Float). laid (raised_to s n xs) out) (ap (take (length a)) e ∙ take_laid (length a) (inverse_of s a) array (l ∙ sym c))
 
 pub returns : goal.returns
-returns c =
+returns g c =
     let a = c.args in
-    raised_of a.shape a.power a.out.now _ (held (goal.at.returns c).After-put_inverse) c.raise.ensures
+    let l = c.requires.a_len.0 in
+    raised_of a.shape a.power a.a.now _ _ a.out.now _ l (inverse_length a.shape a.a.now l c.requires.power_bound.3) c.put_inverse.ensures c.raise.ensures

@@ -4,23 +4,20 @@ use mathlib.Core.List.{List, [], ◌∷◌, ◌++◌, map}
 use Prim.Native.Nat.{ℕ, ◌+◌, ◌%◌, ◌^◌, ◌≤◌, ◌<◌}
 use native.Mathlib.Numerals.{add-one}
 use native.Mathlib.Omega.{arith}
-use borrow.Author.Tests.{le-ltb}
 use lib.Count.{ones}
 use lib.Dec.{ltb}
 use lib.Ieee.{Float, nan}
 use lib.ListN.{length, get_or, take, drop, length-drop, take-append-drop}
 use lib.Seq.{length-take-le, get_or-take, get_or-drop, take-add, drop-drop, take_at, drop_at, ext_get_or}
-use Rattle.masks.specs.declared.outcome.Count.{Count}
-use Rattle.masks.specs.Order.{size, start, grade_size}
-use Rattle.masks.specs.Outcome.{refusal, unless}
+use Rattle.masks.specs.Order.{size, start}
 use Rattle.masks.specs.Shape.{negated_if}
 use Rattle.masks.proofs.ListLaws.{front, front_all}
-use Rattle.masks.proofs.OrderLaws.{part_fits, start_next, start_all, order_ones}
+use Rattle.masks.proofs.OrderLaws.{none_sized, part_fits, start_next, start_all, order_ones}
 use Rattle.masks.proofs.ShapeLaws.{part_length, part_at}
 use Rattle.product.specs.Pairwise.{mask_at}
 use Rattle.product.proofs.ReverseLaws.{reversed_at}
 use Rattle.arithmetic.proofs.ReverseLaws.{reversed_length, inv_reversed_length, inv_reversed_at}
-use Rattle.arithmetic.proofs.reverse.turn_grades.Goals.{After-grade_size-size, then-g-rest, else-g-rest}
+use Rattle.arithmetic.proofs.reverse.turn_grades.Goals.{After-size_or_none-size, then-g-rest, else-g-rest}
 use Rattle.arithmetic.proofs.reverse.turn_grades.Invariants.{turned}
 use Rattle.arithmetic.proofs.reverse.turn_grades.Goals as goal
 
@@ -103,17 +100,12 @@ module _ (rest : Bool) (d : ℕ) (xs : List Float) (g s n : ℕ) (roomy : 2 ^ d 
       rw (before, after, ← drop-drop n s out, after, drop-drop n s xs, ← eb, ← part, ← take-add s n target)
 
 -- ---- what each turn rests on
--- The size of a grade, as the call has it.
-sized : (r : Count) (d g : ℕ) → d ≤ 9 → r ≡ grade_size d g → r.count ≡ size d g
-unfolding grade_size unless refusal
-sized r d g h e = ap (λ (x : Count). x.count) e ∙ rw (le-ltb 9 d h)
-
-module _ (c : After-grade_size-size) where
+module _ (c : After-size_or_none-size) where
   abbrev n : ℕ
-  n = c.grade_size-size.result.count
+  n = c.size_or_none-size.result
 
   counted : n ≡ size c.args.dims c.loop-g.g
-  counted = sized c.grade_size-size.result c.args.dims c.loop-g.g c.requires.0 c.grade_size-size.ensures
+  counted = none_sized c.loop-g.g c.size_or_none-size.ensures c.requires.0
 
   fits : c.loop-g.first + n ≤ 2 ^ c.args.dims
   fits = omega (arith, counted, part_fits c.args.dims c.loop-g.g (omega arith))
@@ -123,27 +115,23 @@ module _ (c : After-grade_size-size) where
   more b e =
       let l = c.loop-g in
       let a = c.args in
-      turned_more a.rest a.dims a.out.now l.g l.first n c.requires.1 (omega arith) l.invariant.1 counted b l.out e l.invariant.3
+      turned_more a.rest a.dims a.out.now l.g l.first n c.requires.1 (omega arith) l.invariant.0 counted b l.out e l.invariant.2
 
 pub loop-g-init : goal.loop-g-init
 unfolding start
-loop-g-init c = (omega arith, refl, omega arith, refl)
+loop-g-init c = (refl, omega arith, refl)
 
 pub negate_part-requires : goal.negate_part-requires
-negate_part-requires c = omega (arith, fits (goal.at.negate_part-requires c).After-grade_size-size, c.requires.1)
+negate_part-requires c = omega (arith, fits (goal.at.negate_part-requires c).After-size_or_none-size, c.requires.1)
 
 pub overflow_add-first : goal.overflow_add-first
-overflow_add-first c = omega (arith, fits (goal.at.overflow_add-first c).After-grade_size-size, c.requires.1)
-
-pub overflow_add-g : goal.overflow_add-g
-overflow_add-g c = omega (arith, c.requires.0)
+overflow_add-first c = omega (arith, fits (goal.at.overflow_add-first c).After-size_or_none-size, c.requires.1)
 
 pub loop-g-preserved : goal.loop-g-preserved
 loop-g-preserved c =
-    let r = (goal.at.loop-g-preserved c).After-grade_size-size in
+    let r = (goal.at.loop-g-preserved c).After-size_or_none-size in
     let l = c.loop-g in (
-      omega arith,
-      omega (arith, counted r, l.invariant.1, start_next c.args.dims l.g),
+      omega (arith, counted r, l.invariant.0, start_next c.args.dims l.g),
       fits r,
       elim c.if-g-rest.branch [
         | then-g-rest w ↦ w.out-is ∙ w.negate_part.ensures ∙ more r true w.if-g-rest.true
@@ -157,5 +145,5 @@ returns c =
     let a = c.args in
     let d = a.dims in
     let e : l.g ≡ d + 1 = omega arith in
-    let f : l.first ≡ 2 ^ d = l.invariant.1 ∙ ap (start d) (e ∙ add-one d) ∙ start_all d in
-    l.invariant.3 ∙ front_all l.first (turned a.rest d a.out.now) a.out.now (turned_length d a.out.now a.rest ∙ sym f)
+    let f : l.first ≡ 2 ^ d = l.invariant.0 ∙ ap (start d) (e ∙ add-one d) ∙ start_all d in
+    l.invariant.2 ∙ front_all l.first (turned a.rest d a.out.now) a.out.now (turned_length d a.out.now a.rest ∙ sym f)

@@ -1,13 +1,9 @@
 use mathlib.Core.Path.{◌≡◌, sym, ap, ◌∙◌}
 use Prim.Native.Nat.{ℕ, ◌^◌}
 use native.Mathlib.Omega.{arith}
-use lib.Pow.{pow_pos}
 use Rattle.arithmetic.specs.Scalar.{test_of}
 use Rattle.arithmetic.proofs.ScalarLaws.{planar_two}
 use Rattle.arithmetic.proofs.scalar.test_other.Goals as goal
-
-pub bounds-a-0 : goal.bounds-a-0
-bounds-a-0 c = omega (arith, pow_pos c.args.shape.dims)
 
 pub bounds-a-3 : goal.bounds-a-3
 bounds-a-3 c =

@@ -1,18 +1,21 @@
+use Rattle.std.proofs.lemmas.Result.{err_from_is_err_and}
 use Rattle.arithmetic.specs.Scale.{scaled}
 use Rattle.arithmetic.proofs.KeptLaws.{copy_refused, copy_room, copy_changed, scaled_length}
 use Rattle.arithmetic.proofs.scale.mul_f64.Goals as goal
 
+pub returns-in_err-kept : goal.returns-in_err-kept
+returns-in_err-kept c =
+    let s = c.args in
+    let p = err_from_is_err_and c.from_residual.result c.from_residual.ensures.1 in
+    let f = c.in_err-kept in
+    rw (p.1, p.2) (copy_refused s.shape s.a.now f.field-0.0 s.out.now _ f.ensures (scaled s.f))
+
 pub scale-requires : goal.scale-requires
 scale-requires c =
     let s = c.args in
-    copy_room s.shape s.a.now c.set_dims-r.result s.out.now _ c.set_dims-r.ensures c.if-r-eq-DONE.true
+    copy_room s.shape s.a.now c.in_ok-kept.kept s.out.now _ c.in_ok-kept.ensures
 
-pub returns-then-r-eq-DONE : goal.returns-then-r-eq-DONE
-returns-then-r-eq-DONE c =
+pub returns : goal.returns
+returns c =
     let s = c.args in
-    copy_changed s.shape s.a.now c.set_dims-r.result s.out.now _ c.set_dims-r.ensures (scaled s.f) _ c.if-r-eq-DONE.true (scaled_length s.f s.a.now) c.scale.ensures
-
-pub returns-else-r-eq-DONE : goal.returns-else-r-eq-DONE
-returns-else-r-eq-DONE c =
-    let s = c.args in
-    copy_refused s.shape s.a.now c.set_dims-r.result s.out.now _ c.set_dims-r.ensures (scaled s.f) c.if-r-eq-DONE.false
+    copy_changed s.shape s.a.now c.in_ok-kept.kept s.out.now _ c.in_ok-kept.ensures (scaled s.f) _ (scaled_length s.f s.a.now) c.scale.ensures

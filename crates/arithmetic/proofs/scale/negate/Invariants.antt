@@ -1,13 +1,8 @@
 use mathlib.Core.Path.{◌≡◌}
-use mathlib.Core.List.{map}
-use Prim.Native.Nat.{◌-◌, ◌≤◌}
+use mathlib.Core.List.{◌++◌, map}
 use lib.Ieee.{neg}
-use lib.ListN.{take}
-use Rattle.masks.proofs.ListLaws.{front}
+use lib.ListN.{take, drop}
 use Rattle.arithmetic.proofs.scale.negate.Given as goal
 
-abbrev pub invariant-loop-k : goal.invariant-loop-k
-invariant-loop-k l = (l.k ≤ l.n) × (l.out ≡ front l.k (map neg (take l.n l.initial.out)) l.initial.out)
-
-abbrev pub decreases-loop-k : goal.decreases-loop-k
-decreases-loop-k l = l.n - l.k
+abbrev pub invariant-loop-x : goal.invariant-loop-x
+invariant-loop-x l = l.x-items ≡ map neg (take l.x-index l.initial.x-items) ++ drop l.x-index l.initial.x-items

@@ -1,35 +1,25 @@
-use mathlib.Core.Path.{refl, sym, ◌∙◌}
-use Prim.Native.Nat.{◌-◌, ◌^◌, ◌≤◌, ◌<◌}
+use mathlib.Core.Path.{◌≡◌, refl, sym, ap, ◌∙◌}
+use Prim.Native.Nat.{ℕ, ◌+◌, ◌-◌, ◌^◌}
 use native.Mathlib.Omega.{arith}
-use Rattle.masks.proofs.BladeLaws.{below_nine, dims_here, dims_next}
-use Rattle.masks.proofs.blade.dims_for.Goals.{In-loop-n}
+use borrow.Author.Tests.{tests}
+use lib.Dec.{ltb}
+use Rattle.std.proofs.Common.{rules}
+use Rattle.std.proofs.lemmas.Iterator.{YieldsList-from_range}
+use Rattle.std.proofs.lemmas.Iterator.Search.{find_from_yields_List}
+use Rattle.std.specs.List.{find, range_with_len}
+use Rattle.std.specs.Option.{unwrap_or}
+use Rattle.masks.proofs.ListLaws.{option_same}
+use Rattle.masks.proofs.BladeLaws.{dims_found}
 use Rattle.masks.proofs.blade.dims_for.Goals as goal
-
--- one dimension more is needed
-module _ (c : In-loop-n) where
-  more : 2 ^ c.loop-n.n ≤ c.args.mask
-  more = omega (arith, c.blades.ensures)
-
-  few : c.loop-n.n < 9
-  few = below_nine c.loop-n.n c.args.mask c.loop-n.invariant.0 more c.requires.1
-
-pub loop-n-init : goal.loop-n-init
-loop-n-init c = (c.requires.0, refl)
-
-pub blades-requires : goal.blades-requires
-blades-requires c = c.loop-n.invariant.0
-
-pub overflow_add-n : goal.overflow_add-n
-overflow_add-n c = omega (arith, few c)
-
-pub loop-n-smaller : goal.loop-n-smaller
-loop-n-smaller c = omega (arith, few c)
-
-pub loop-n-preserved : goal.loop-n-preserved
-loop-n-preserved c = (omega (arith, few c), c.loop-n.invariant.1 ∙ dims_next _ _ (few c) (more c))
 
 pub returns : goal.returns
 returns c =
-    let l = c.loop-n in
-    let h : c.args.mask < 2 ^ l.n = omega (arith, c.blades.ensures) in
-    sym (l.invariant.1 ∙ dims_here (9 - l.n) l.n _ h)
+    let d : ℕ = c.args.dims in
+    let m : ℕ = c.args.mask in
+    let nine : d + (9 - d) ≡ 9 = omega arith in
+    c.unwrap_or.ensures
+    ∙ ap (λ o. unwrap_or o 9)
+    (option_same c.find-fits.result
+    ∙ find_from_yields_List (λ n. ltb m (2 ^ n)) _ _ c.find-fits.result c.find-fits.ensures.ran (YieldsList-from_range d 9 (9 - d) (cc) refl) (λ x b q k. search (rules, tests)))
+    ∙ ap (λ i. unwrap_or (find (λ n. ltb m (2 ^ n)) (range_with_len d (9 - d))) i) (sym nine)
+    ∙ dims_found (9 - d) d m

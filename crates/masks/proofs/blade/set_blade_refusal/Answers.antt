@@ -1,4 +1,4 @@
-use mathlib.Core.Path.{◌≡◌, sym, ap, ◌∙◌}
+use mathlib.Core.Path.{◌≡◌, refl, sym, ap, ◌∙◌}
 use Prim.Native.Nat.{◌-◌, ◌^◌, ◌≤◌, ◌<◌}
 use native.Mathlib.Omega.{arith}
 use borrow.Author.Tests.{eq-eqb, ne_eqb, lt-ltb, le-ltb}
@@ -48,4 +48,4 @@ pub returns : goal.returns
 unfolding refusal
 returns c =
     let h : 2 ^ (blade_dims (9 - c.args.dims) c.args.dims c.args.mask) ≤ c.args.room = omega (arith, needed (goal.at.returns c).After-blades-2) in
-    simp (le-ltb 9 _ c.if-dims-gt-MAX_DIMS.false, lt-ltb _ 512 c.if-mask-ge512.false, eq-eqb _ _ (counted (goal.at.returns c).Else-count-blades), le-ltb _ _ h)
+    (simp (le-ltb 9 _ c.if-dims-gt-MAX_DIMS.false, lt-ltb _ 512 c.if-mask-ge512.false, eq-eqb _ _ (counted (goal.at.returns c).Else-count-blades), le-ltb _ _ h), refl)

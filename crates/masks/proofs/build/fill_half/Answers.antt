@@ -1,14 +1,15 @@
 use mathlib.Core.Path.{◌≡◌, refl, sym, ap, ◌∙◌}
 use Prim.Native.Nat.{ℕ, suc, ◌+◌, ◌%◌, ◌≤◌, ◌<◌}
 use native.Mathlib.Omega.{arith}
+use borrow.Author.Tests.{eqb-true, eqb-false}
 use lib.ListN.{length}
 use Rattle.masks.specs.Order.{grades_below, order, size, start}
 use Rattle.masks.specs.Outcome.{laid}
-use Rattle.masks.specs.Build.{spread}
+use Rattle.masks.specs.Build.{odd_of, spread}
 use Rattle.masks.proofs.OrderLaws.{part_fits, start_next}
-use Rattle.masks.proofs.BuildLaws.{counted_zero, half_twice, half_some}
+use Rattle.masks.proofs.BuildLaws.{odd-le, counted, counted_zero, half_twice, half_some}
 use Rattle.masks.proofs.GradeParts.{counted_within, counted_more, counted_same, spread_more, spread_zeros}
-use Rattle.masks.proofs.build.fill_half.Goals.{At-loop-g, then-g-odd, else-g-odd}
+use Rattle.masks.proofs.build.fill_half.Goals.{At-loop-g, Joined-has, then-has, else-has}
 use Rattle.masks.proofs.build.fill_half.Goals as goal
 
 -- in each turn there is room for the grade, and where it has the parity there are numbers for it
@@ -16,28 +17,29 @@ module _ (c : At-loop-g) (n : ℕ) (e : n ≡ size c.args.dims c.loop-g.g) (h : 
   room : c.loop-g.k + n ≤ length c.loop-g.out
   room = omega (arith, part_fits c.args.dims c.loop-g.g h)
 
-  given : c.loop-g.g % 2 ≡ c.args.odd → c.loop-g.i + n ≤ length c.args.v.now
+  given : c.loop-g.g % 2 ≡ odd_of c.args.parity → c.loop-g.i + n ≤ length c.args.v.now
   given p =
-      let odd : ℕ = c.args.odd in
+      let odd : ℕ = odd_of c.args.parity in
       let d : ℕ = c.args.dims in
       let g : ℕ = c.loop-g.g in
-      let some : 0 < d = half_some d (length c.args.v.now) c.requires.2 in
-      omega (arith, counted_more odd d g p, counted_within odd d (g + 1) c.requires.0 some (omega arith), half_twice odd d c.requires.0 some)
+      let o : odd ≤ 1 = odd-le c.args.parity in
+      let some : 0 < d = half_some d (length c.args.v.now) c.requires.1 in
+      omega (arith, counted_more odd d g p, counted_within odd d (g + 1) o some (omega arith), half_twice odd d o some)
 
 pub loop-g-init : goal.loop-g-init
 unfolding start grades_below spread
-loop-g-init c = (omega arith, sym (counted_zero c.args.odd c.args.dims), refl, refl)
+loop-g-init c = record { taken = sym (counted_zero (odd_of c.args.parity) c.args.dims); passed = refl; filled = refl }
 
 pub copy_part-requires : goal.copy_part-requires
 copy_part-requires c =
     let l = (goal.at.copy_part-requires c).At-loop-g in
     let n = c.size_of-count in
-    (given l n.result n.ensures (omega arith) c.if-g-odd.true, room l n.result n.ensures (omega arith))
+    (given l n.result n.ensures (omega arith) (eqb-true _ _ (sym c.has.ensures ∙ c.if-has.true)), room l n.result n.ensures (omega arith))
 
 pub overflow_add-i : goal.overflow_add-i
 overflow_add-i c =
     let n = c.size_of-count in
-    omega (arith, given (goal.at.overflow_add-i c).At-loop-g n.result n.ensures (omega arith) c.if-g-odd.true)
+    omega (arith, given (goal.at.overflow_add-i c).At-loop-g n.result n.ensures (omega arith) (eqb-true _ _ (sym c.has.ensures ∙ c.if-has.true)))
 
 pub clear_part-requires : goal.clear_part-requires
 clear_part-requires c =
@@ -50,32 +52,44 @@ overflow_add-k c =
     let n = c.size_of-count in
     omega (arith, room l n.result n.ensures (omega arith))
 
-pub loop-g-preserved : goal.loop-g-preserved
-loop-g-preserved c =
+-- after each turn
+step : (c : Joined-has) → (c.loop-g.g % 2 ≡ odd_of c.args.parity → c.loop-g.i + c.size_of-count.result ≤ length c.args.v.now) → ((c.if-has.i ≡ counted (odd_of c.args.parity) c.args.dims (c.loop-g.g + 1)) × (c.loop-g.k + c.size_of-count.result ≡ start c.args.dims (c.loop-g.g + 1)) × (c.if-has.out ≡ laid (spread (odd_of c.args.parity) (grades_below c.args.dims (c.loop-g.g + 1)) c.args.v.now) c.args.out.now))
+step c enough =
     let l = c.loop-g in
     let e = c.size_of-count.ensures in
     let a = c.args in
-    let k : l.k + c.size_of-count.result ≡ start a.dims (l.g + 1) = omega (arith, e, l.invariant.2, start_next a.dims l.g) in
-    elim c.if-g-odd.branch [
-      | then-g-odd w ↦ (
-        omega arith,
-        omega (arith, counted_more a.odd a.dims l.g w.if-g-odd.true),
-        k,
-        w.out-is ∙ w.copy_part.ensures
-            ∙ rw (l.invariant.3, l.invariant.2, l.invariant.1, e) (spread_more a.odd a.dims l.g a.v.now a.out.now w.if-g-odd.true (omega (arith, l.invariant.1, e, given (goal.at.loop-g-preserved c).At-loop-g c.size_of-count.result e c.loop-g-test.true w.if-g-odd.true)) c.loop-g-test.true c.requires.3),
-      )
-      | else-g-odd w ↦ (
-        omega arith,
-        w.i-is ∙ l.invariant.1 ∙ sym (counted_same a.odd a.dims l.g w.if-g-odd.false),
-        k,
-        w.out-is ∙ w.clear_part.ensures
-            ∙ rw (l.invariant.3, l.invariant.2, e) (spread_zeros a.odd a.dims l.g a.v.now a.out.now w.if-g-odd.false c.loop-g-test.true c.requires.3),
-      )
+    let odd : ℕ = odd_of a.parity in
+    let h : l.g ≤ a.dims = omega arith in
+    let i = l.invariant in
+    let k : l.k + c.size_of-count.result ≡ start a.dims (l.g + 1) = omega (arith, e, i.passed, start_next a.dims l.g) in
+    elim c.if-has.branch [
+      | then-has w ↦
+          let p : l.g % 2 ≡ odd = eqb-true _ _ (sym c.has.ensures ∙ w.if-has.true) in (
+            omega (arith, i.taken, e, w.i-is, counted_more odd a.dims l.g p),
+            k,
+            w.out-is ∙ w.copy_part.ensures
+                ∙ rw (i.filled, i.passed, i.taken, e) (spread_more odd a.dims l.g a.v.now a.out.now p (omega (arith, i.taken, e, enough p)) h c.requires.2),
+          )
+      | else-has w ↦
+          let p : l.g % 2 ≡ odd → ⊥ = eqb-false _ _ (sym c.has.ensures ∙ w.if-has.false) in (
+            w.i-is ∙ i.taken ∙ sym (counted_same odd a.dims l.g p),
+            k,
+            w.out-is ∙ w.clear_part.ensures
+                ∙ rw (i.filled, i.passed, e) (spread_zeros odd a.dims l.g a.v.now a.out.now p h c.requires.2),
+          )
     ]
 
-pub returns : goal.returns
+pub loop-g-preserved : goal.loop-g-preserved
+loop-g-preserved c =
+    let at = goal.at.loop-g-preserved c in
+    let s = step at.Joined-has (given at.At-loop-g c.size_of-count.result c.size_of-count.ensures (omega arith)) in
+    record { taken = s.0; passed = s.1; filled = s.2 }
+
+pub returns-after-has : goal.returns-after-has
 unfolding order
-returns c =
+returns-after-has c =
     let a = c.args in
-    let e : c.loop-g.g ≡ suc a.dims = omega arith in
-    c.loop-g.invariant.3 ∙ ap (λ (n : ℕ). laid (spread a.odd (grades_below a.dims n) a.v.now) a.out.now) e
+    let at = goal.at.returns-after-has c in
+    let s = step at.Joined-has (given at.At-loop-g c.size_of-count.result c.size_of-count.ensures (omega arith)) in
+    let e : c.loop-g.g + 1 ≡ suc a.dims = grind arith in
+    s.2 ∙ ap (λ (n : ℕ). laid (spread (odd_of a.parity) (grades_below a.dims n) a.v.now) a.out.now) e

@@ -1,7 +1,7 @@
-use mathlib.Core.Path.{sym}
 use Prim.Native.Nat.{◌-◌}
 use native.Mathlib.Omega.{arith}
 use lib.ListN.{length}
+use Rattle.masks.specs.declared.outcome.Refusal.TheVariants.{WrongCount}
 use Rattle.masks.specs.Build.{n_1_blades}
 use Rattle.masks.proofs.OutcomeLaws.{gives_refused}
 use Rattle.masks.proofs.BuildLaws.{few, n1_one, grade_fits, size_before_last}
@@ -11,7 +11,7 @@ pub returns-then-n-lt2 : goal.returns-then-n-lt2
 unfolding n_1_blades
 returns-then-n-lt2 c =
     let a = c.args in
-    gives_refused _ 2 _ _ _ (sym (few (length a.v.now) (length a.out.now) (omega arith))) (λ e. omega arith) c.refused.ensures
+    gives_refused _ WrongCount _ a.out.now (few (length a.v.now) (length a.out.now) (omega arith))
 
 pub one_grade-requires : goal.one_grade-requires
 one_grade-requires c =

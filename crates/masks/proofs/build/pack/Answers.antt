@@ -1,95 +1,81 @@
 use mathlib.Core.Path.{◌≡◌, refl, sym, ap, ◌∙◌, subst}
-use mathlib.Core.Bool.{false}
-use mathlib.Core.List.{[]}
 use native.Mathlib.Omega.{arith}
 use lib.ListN.{length}
-use Rattle.masks.specs.declared.build.Packing.{Packing}
-use Rattle.masks.specs.declared.build.Packing.TheVariants.{Full, Half, Grade, Nothing}
-use Rattle.masks.specs.Outcome.{value, answer_of}
-use Rattle.masks.specs.Build.{blades_of_side, packing, unpacked}
+use Rattle.std.specs.Prelude.{Some}
+use Rattle.std.proofs.lemmas.Result.{err_from_is_err_and}
+use Rattle.masks.specs.declared.build.Packing.TheVariants.{Full, Half, Grade}
+use Rattle.masks.specs.declared.outcome.Refusal.TheVariants.{TooManyDims, WrongCount, NoRoom}
+use Rattle.masks.specs.Build.{odd_of, packing, unpacked, blades_of_side}
+use Rattle.masks.proofs.ListLaws.{missing_err}
 use Rattle.masks.proofs.OutcomeLaws.{gives_refused, gives_done}
 use Rattle.masks.proofs.BuildLaws.{Packs, packing_fits, grade_fits, pack_wide, pack_none, pack_short, pack_done}
-use Rattle.masks.proofs.build.pack.Goals.{After-packing_of-p}
+use Rattle.masks.proofs.build.pack.Goals.{In_ok-packing}
 use Rattle.masks.proofs.build.pack.Goals as goal
 
 -- the packing that was found, and what it says
-module _ (c : After-packing_of-p) where
-  found : (p : Packing) → c.packing_of-p.result ≡ p → packing c.args.odd c.args.dims (length c.args.v.now) ≡ p
-  found p e = sym c.packing_of-p.ensures ∙ e
+module _ (c : In_ok-packing) where
+  found : packing (odd_of c.args.parity) c.args.dims (length c.args.v.now) ≡ Some c.in_ok-packing.packing
+  found = sym c.packing_of.ensures ∙ c.in_ok-packing.ensures.ok_part
 
-  says : (p : Packing) → c.packing_of-p.result ≡ p → Packs p c.args.dims (length c.args.v.now)
-  says p e =
-      subst (λ q. Packs q c.args.dims (length c.args.v.now)) (found p e) (packing_fits c.args.dims (length c.args.v.now) c.args.odd)
-
--- a packing that is not the last variant fits
-filled : (p : Packing) → (p ≡ Nothing → ⊥) → unpacked p ≡ false
-filled Full k = refl
-filled Half k = refl
-filled (Grade g) k = refl
-filled Nothing k = absurd (k refl)
+  says : Packs (Some c.in_ok-packing.packing) c.args.dims (length c.args.v.now)
+  says = subst (λ q. Packs q c.args.dims (length c.args.v.now)) found (packing_fits c.args.dims (length c.args.v.now) (odd_of c.args.parity))
 
 pub returns-then-dims-gt-MAX_DIMS : goal.returns-then-dims-gt-MAX_DIMS
 unfolding blades_of_side
 returns-then-dims-gt-MAX_DIMS c =
     let a = c.args in
-    gives_refused _ 1 _ _ _ (sym (pack_wide a.dims (packing a.odd a.dims (length a.v.now)) (length a.out.now) (omega arith))) (λ e. omega arith) c.refused.ensures
+    gives_refused _ TooManyDims _ a.out.now (pack_wide a.dims (packing (odd_of a.parity) a.dims (length a.v.now)) (length a.out.now) (omega arith))
 
-pub returns-in-Nothing : goal.returns-in-Nothing
+pub returns-in_err-packing : goal.returns-in_err-packing
 unfolding blades_of_side
-returns-in-Nothing c =
+returns-in_err-packing c =
     let a = c.args in
-    rw (found (goal.at.returns-in-Nothing c).After-packing_of-p Nothing c.in-Nothing.is)
-    (gives_refused _ 2 _ _ _ (sym (pack_none a.dims Nothing (length a.out.now) (omega arith) refl)) (λ e. omega arith) c.refused-in-Nothing.ensures)
+    let p = err_from_is_err_and c.from_residual.result c.from_residual.ensures.1 in
+    let f = c.in_err-packing in
+    rw (p.1, p.2, missing_err _ _ _ f.ensures.value)
+    (gives_refused _ WrongCount _ a.out.now (pack_none a.dims (packing (odd_of a.parity) a.dims (length a.v.now)) (length a.out.now) (omega arith) (ap unpacked (sym c.packing_of.ensures ∙ f.ensures.ok_part))))
 
 pub returns-then-out-blades : goal.returns-then-out-blades
 unfolding blades_of_side
 returns-then-out-blades c =
     let a = c.args in
-    let p : Packing = packing a.odd a.dims (length a.v.now) in
-    let f : unpacked p ≡ false = rw c.packing_of-p.ensures at (filled c.packing_of-p.result c.in_default.not-Nothing) in
-    let e = pack_short a.dims p (length a.out.now) (omega arith) f (omega (arith, c.blades.ensures)) in
-    gives_refused _ 3 _ _ _ (sym e) (λ e. omega arith) c.refused-then-out-blades.ensures
+    let p = packing (odd_of a.parity) a.dims (length a.v.now) in
+    gives_refused _ NoRoom _ a.out.now
+    (pack_short a.dims p (length a.out.now) (omega arith) (ap unpacked (found (goal.at.returns-then-out-blades c).In_ok-packing)) (omega (arith, c.blades.ensures)))
 
 pub copy_all-requires : goal.copy_all-requires
-copy_all-requires c = omega (arith, c.blades.ensures, says (goal.at.copy_all-requires c).After-packing_of-p Full c.in-Full.is)
+copy_all-requires c =
+    let p = rw c.in-Full.is at (says (goal.at.copy_all-requires c).In_ok-packing) in
+    omega (arith, c.blades.ensures, p)
 
 pub fill_half-requires : goal.fill_half-requires
-fill_half-requires c = (c.requires, omega arith, says (goal.at.fill_half-requires c).After-packing_of-p Half c.in-Half.is, omega (arith, c.blades.ensures))
+fill_half-requires c =
+    let p = rw c.in-Half.is at (says (goal.at.fill_half-requires c).In_ok-packing) in
+    (omega arith, p, omega (arith, c.blades.ensures))
 
 pub fill_grade-requires : goal.fill_grade-requires
 fill_grade-requires c =
     let g = c.in-Grade.g in
-    let f = says (goal.at.fill_grade-requires c).After-packing_of-p (Grade g) c.in-Grade.is in
-    omega (arith, f, grade_fits c.args.dims g _ f.0 f.1, c.blades.ensures)
+    let p = rw c.in-Grade.is at (says (goal.at.fill_grade-requires c).In_ok-packing) in
+    omega (arith, p, grade_fits c.args.dims g _ p.0 p.1, c.blades.ensures)
 
 pub returns-in-Full : goal.returns-in-Full
 unfolding blades_of_side
 returns-in-Full c =
     let a = c.args in
-    rw (found (goal.at.returns-in-Full c).After-packing_of-p Full c.in-Full.is)
-    (gives_done _ 0 _ _ _ _ (sym (pack_done a.dims Full (length a.out.now) (omega arith) refl (omega (arith, c.blades.ensures)))) refl
-    (c.done.ensures ∙ ap (λ x. answer_of (value x [])) c.shape_of.ensures) c.copy_all.ensures)
+    rw (found (goal.at.returns-in-Full c).In_ok-packing, c.in-Full.is)
+    (gives_done _ _ _ _ _ (pack_done a.dims (Some Full) (length a.out.now) (omega arith) refl (omega (arith, c.blades.ensures))) refl c.shape_of.ensures c.copy_all.ensures)
 
 pub returns-in-Half : goal.returns-in-Half
 unfolding blades_of_side
 returns-in-Half c =
     let a = c.args in
-    rw (found (goal.at.returns-in-Half c).After-packing_of-p Half c.in-Half.is)
-    (gives_done _ 0 _ _ _ _ (sym (pack_done a.dims Half (length a.out.now) (omega arith) refl (omega (arith, c.blades.ensures)))) refl
-    (c.done-in-Half.ensures ∙ ap (λ x. answer_of (value x [])) c.shape_of-in-Half.ensures) c.fill_half.ensures)
+    rw (found (goal.at.returns-in-Half c).In_ok-packing, c.in-Half.is)
+    (gives_done _ _ _ _ _ (pack_done a.dims (Some Half) (length a.out.now) (omega arith) refl (omega (arith, c.blades.ensures))) refl c.shape_of-in-Half.ensures c.fill_half.ensures)
 
 pub returns-in-Grade : goal.returns-in-Grade
 unfolding blades_of_side
 returns-in-Grade c =
     let a = c.args in
-    let g = c.in-Grade.g in
-    rw (found (goal.at.returns-in-Grade c).After-packing_of-p (Grade g) c.in-Grade.is)
-    (gives_done _ 0 _ _ _ _ (sym (pack_done a.dims (Grade g) (length a.out.now) (omega arith) refl (omega (arith, c.blades.ensures)))) refl
-    (c.done-in-Grade.ensures ∙ ap (λ x. answer_of (value x [])) c.shape_of-in-Grade.ensures) c.fill_grade.ensures)
-
-pub returns-in-Nothing-p : goal.returns-in-Nothing-p
-unfolding blades_of_side
-returns-in-Nothing-p c =
-    let a = c.args in
-    rw (found (goal.at.returns-in-Nothing-p c).After-packing_of-p Nothing c.in-Nothing-p.is)
-    (gives_refused _ 2 _ _ _ (sym (pack_none a.dims Nothing (length a.out.now) (omega arith) refl)) (λ e. omega arith) c.refused-in-Nothing-p.ensures)
+    rw (found (goal.at.returns-in-Grade c).In_ok-packing, c.in-Grade.is)
+    (gives_done _ _ _ _ _ (pack_done a.dims (Some (Grade c.in-Grade.g)) (length a.out.now) (omega arith) refl (omega (arith, c.blades.ensures))) refl c.shape_of-in-Grade.ensures c.fill_grade.ensures)

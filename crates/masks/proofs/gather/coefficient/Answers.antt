@@ -1,5 +1,5 @@
 use mathlib.Core.Path.{sym, ap, ◌∙◌}
-use Prim.Native.Nat.{◌^◌, ◌≤◌, ◌<◌}
+use Prim.Native.Nat.{◌^◌, ◌<◌}
 use native.Mathlib.Omega.{arith}
 use lib.Ieee.{nan, of_bits, of_fields}
 use lib.ListN.{get_or}
@@ -12,9 +12,6 @@ low : (c : After-place_of-p) → c.place_of-p.result < 2 ^ c.args.dims
 low c =
     let a = c.args in
     omega (arith, c.place_of-p.ensures, place_lt a.dims a.mask (omega (arith, c.if-mask-blades.true, c.blades.ensures)))
-
-pub overflow_cast-mask : goal.overflow_cast-mask
-overflow_cast-mask c = omega (arith, c.if-mask-blades.true, c.blades.ensures, blades_le c.args.dims c.requires.0)
 
 pub offset_bounds-a-p : goal.offset_bounds-a-p
 offset_bounds-a-p c = omega (arith, low c, blades_le c.args.dims c.requires.0)

@@ -1,5 +1,5 @@
 use mathlib.Core.Path.{◌≡◌, sym, ap, ◌∙◌}
-use Prim.Native.Nat.{ℕ, ◌+◌, ◌^◌, ◌≤◌}
+use Prim.Native.Nat.{ℕ, ◌+◌, ◌≤◌}
 use native.Mathlib.Omega.{arith}
 use lib.ListN.{length}
 use lib.Seq.{length-take-le}
@@ -24,12 +24,6 @@ returns-then-up-eq0 c =
     let s = c.args in
     c.resize.ensures
     ∙ ap (λ xs. laid xs s.out.now) (conformed_none s.up s.dims s.new_dims s.a.now c.if-up-eq0.true)
-
-pub promote-requires : goal.promote-requires
-promote-requires c =
-    let p = c.requires in
-    let r : 2 ^ (c.args.dims + 1) ≤ length c.args.out.now = omega (arith, p.4, ap (λ n. 2 ^ n) c.if-dims-new_dims.true) in
-    (omega (arith, more c.args.up c.args.dims c.requires.0 c.if-up-eq0.false c.requires.1), p.3, r)
 
 pub returns-then-dims-new_dims : goal.returns-then-dims-new_dims
 returns-then-dims-new_dims c =

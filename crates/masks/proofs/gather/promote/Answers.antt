@@ -38,29 +38,22 @@ module _ (c : At-loop-g) where
   kept : length c.loop-g.out ≡ length c.args.out.now
   kept =
       let xs : List ℕ = grades_below (d + 1) (g + 1) in
-      ap length c.loop-g.invariant.4
+      ap length c.loop-g.invariant.3
       ∙ laid_length (map (promoted_coef d a) xs) out (omega (arith, long, length-map xs (promoted_coef d a), below_within (d + 1) (g + 1) (omega arith), c.requires.2)) ∙ long
 
   -- the numbers of the next grade, and room for them
   module _ (h : g ≤ d) where
     part : c.loop-g.i + size d (g + 1) ≤ length a
-    part = omega (arith, c.loop-g.invariant.2, c.requires.1, part_within d (g + 1) (omega arith))
+    part = omega (arith, c.loop-g.invariant.1, c.requires.1, part_within d (g + 1) (omega arith))
 
     room : c.loop-g.k + (c.loop-g.below + size d (g + 1)) ≤ length c.loop-g.out
     room =
         omega
-        (arith, kept, c.loop-g.invariant.1, c.loop-g.invariant.3, c.requires.2, part_within (d + 1) (g + 1) (omega arith), size_both d g)
-
-pub bounds-a-0 : goal.bounds-a-0
-bounds-a-0 c = omega (arith, pow_pos c.args.dims)
-
-pub bounds-out-0 : goal.bounds-out-0
-bounds-out-0 c = omega (arith, pow_pos (c.args.dims + 1))
+        (arith, kept, c.loop-g.invariant.0, c.loop-g.invariant.2, c.requires.2, part_within (d + 1) (g + 1) (omega arith), size_both d g)
 
 pub loop-g-init : goal.loop-g-init
 loop-g-init c =
     let d = c.args.dims in (
-      omega arith,
       sym (size_zero d),
       sym (start_one d),
       sym (start_one (d + 1)),
@@ -89,18 +82,14 @@ loop-g-preserved c =
     let e = c.size_of-below.ensures in
     let l = c.loop-g in
     let h : g (goal.at.loop-g-preserved c).At-loop-g ≤ d (goal.at.loop-g-preserved c).At-loop-g = omega arith in (
-      omega arith,
       e,
-      omega (arith, e, l.invariant.2, start_next (d (goal.at.loop-g-preserved c).At-loop-g) (g (goal.at.loop-g-preserved c).At-loop-g + 1)),
-      omega (arith, e, l.invariant.1, l.invariant.3, start_next (d (goal.at.loop-g-preserved c).At-loop-g + 1) (g (goal.at.loop-g-preserved c).At-loop-g + 1), size_both (d (goal.at.loop-g-preserved c).At-loop-g) (g (goal.at.loop-g-preserved c).At-loop-g)),
+      omega (arith, e, l.invariant.1, start_next (d (goal.at.loop-g-preserved c).At-loop-g) (g (goal.at.loop-g-preserved c).At-loop-g + 1)),
+      omega (arith, e, l.invariant.0, l.invariant.2, start_next (d (goal.at.loop-g-preserved c).At-loop-g + 1) (g (goal.at.loop-g-preserved c).At-loop-g + 1), size_both (d (goal.at.loop-g-preserved c).At-loop-g) (g (goal.at.loop-g-preserved c).At-loop-g)),
       c.copy_part.ensures
           ∙ ap (λ xs. sets xs (l.k + l.below) (take c.size_of-below.result (drop l.i (a (goal.at.loop-g-preserved c).At-loop-g))))
-          (c.clear_part.ensures ∙ ap (λ xs. sets xs l.k (replicate l.below nought)) l.invariant.4)
-          ∙ promoted_next (d (goal.at.loop-g-preserved c).At-loop-g) (a (goal.at.loop-g-preserved c).At-loop-g) c.requires.1 (g (goal.at.loop-g-preserved c).At-loop-g) (out (goal.at.loop-g-preserved c).At-loop-g) l.invariant.1 l.invariant.2 l.invariant.3 e h (omega (arith, long (goal.at.loop-g-preserved c).At-loop-g, c.requires.2)),
+          (c.clear_part.ensures ∙ ap (λ xs. sets xs l.k (replicate l.below nought)) l.invariant.3)
+          ∙ promoted_next (d (goal.at.loop-g-preserved c).At-loop-g) (a (goal.at.loop-g-preserved c).At-loop-g) c.requires.1 (g (goal.at.loop-g-preserved c).At-loop-g) (out (goal.at.loop-g-preserved c).At-loop-g) l.invariant.0 l.invariant.1 l.invariant.2 e h (omega (arith, long (goal.at.loop-g-preserved c).At-loop-g, c.requires.2)),
     )
 
-pub shape_of-out : goal.shape_of-out
-shape_of-out c = kept (goal.at.shape_of-out c).At-loop-g
-
 pub returns : goal.returns
-returns c = c.loop-g.invariant.4 ∙ promoted_all (d (goal.at.returns c).At-loop-g) (a (goal.at.returns c).At-loop-g) (g (goal.at.returns c).At-loop-g) c.args.out.now (get_or (a (goal.at.returns c).At-loop-g) 0 nan) (omega arith)
+returns c = c.loop-g.invariant.3 ∙ promoted_all (d (goal.at.returns c).At-loop-g) (a (goal.at.returns c).At-loop-g) (g (goal.at.returns c).At-loop-g) c.args.out.now (get_or (a (goal.at.returns c).At-loop-g) 0 nan) (omega arith)

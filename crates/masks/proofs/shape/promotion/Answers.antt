@@ -1,17 +1,19 @@
+use mathlib.Core.Path.{◌≡◌, refl, ◌∙◌}
+use Rattle.masks.specs.declared.flavor.Flavor.{Flavor}
+use Rattle.masks.specs.declared.flavor.Flavor.TheVariants.{Vanilla, Projective, Cl}
+use Rattle.masks.specs.Flavor.{added_dims}
 use Rattle.masks.specs.Shape.{promotes}
 use Rattle.masks.proofs.shape.promotion.Goals as goal
 
-pub returns-in-Vanilla-g : goal.returns-in-Vanilla-g
-unfolding promotes
-returns-in-Vanilla-g c = rw (c.in-Vanilla.is, c.in-Vanilla-g.is)
+-- Vanilla is promoted by the dimensions that a flavor adds
+from_vanilla : (g : Flavor) → added_dims g ≡ promotes Vanilla g
+unfolding added_dims promotes
+from_vanilla Vanilla = refl
+from_vanilla Projective = refl
+from_vanilla (Cl p n z) = refl
 
-pub returns-in-Projective-g : goal.returns-in-Projective-g
-unfolding promotes
-returns-in-Projective-g c = rw (c.in-Vanilla.is, c.in-Projective-g.is)
-
-pub returns-in-Cl-g : goal.returns-in-Cl-g
-unfolding promotes
-returns-in-Cl-g c = rw (c.in-Vanilla.is, c.in-Cl-g.is)
+pub returns-in-Vanilla : goal.returns-in-Vanilla
+returns-in-Vanilla c = c.added_dims.ensures ∙ rw c.in-Vanilla.is (from_vanilla c.args.g)
 
 pub returns-in-Projective : goal.returns-in-Projective
 unfolding promotes

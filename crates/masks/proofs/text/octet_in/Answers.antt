@@ -1,30 +1,30 @@
 use mathlib.Core.Path.{◌≡◌, sym, ap, ◌∙◌}
 use mathlib.Core.List.{List, [], ◌∷◌}
-use Prim.Native.Nat.{ℕ, ◌≤◌}
+use Prim.Native.Nat.{ℕ, ◌<◌}
 use native.Mathlib.Omega.{arith}
 use lib.ListN.{length, get_or}
 use Rattle.masks.specs.Text.{octet_of, octet}
 use Rattle.masks.proofs.TextScan.{rest_all}
 use Rattle.masks.proofs.TextLaws.{unsigned_plus, unsigned_not}
-use Rattle.masks.proofs.text.octet_in.Goals.{then-t-gt0+else-t-eq43, else-t-gt0}
+use Rattle.masks.proofs.text.octet_in.Goals.{in_default-via-then-t-lt1, in_default-via-else-t-lt1+in_default-1}
 use Rattle.masks.proofs.text.octet_in.Goals as goal
 
 -- where there is no byte, the first is no +
-not_plus : (t : List ℕ) → length t ≤ 0 → get_or t 0 0 ≡ 43 → ⊥
+not_plus : (t : List ℕ) → length t < 1 → get_or t 0 0 ≡ 43 → ⊥
 not_plus [] h e = omega arith
 not_plus (c ∷ cs) h e = omega arith
 
-pub returns-then-t-eq43 : goal.returns-then-t-eq43
+pub returns-in-43 : goal.returns-in-43
 unfolding octet
-returns-then-t-eq43 c =
-    let a = c.args in
-    c.digits.ensures
-    ∙ ap octet_of (rest_all 1 a.t.now ∙ sym (unsigned_plus a.t.now (omega arith) c.if-t-eq43.true))
+returns-in-43 c =
+    let t = c.args.t.now in
+    let h : get_or t 0 0 ≡ 43 = grind arith in
+    c.digits.ensures ∙ ap octet_of (rest_all 1 t ∙ sym (unsigned_plus t c.in-43.len_at_least h))
 
-pub returns : goal.returns
+pub returns-in_default : goal.returns-in_default
 unfolding octet
-returns c =
-    let a = c.args in
-    let h : get_or a.t.now 0 0 ≡ 43 → ⊥ =
-    elim c.if-t-gt0.branch [ then-t-gt0+else-t-eq43 w ↦ w.if-t-eq43.false | else-t-gt0 w ↦ not_plus a.t.now w.if-t-gt0.false ] in
-    c.digits-2.ensures ∙ ap octet_of (sym (unsigned_not a.t.now h))
+returns-in_default c =
+    let t = c.args.t.now in
+    let h : get_or t 0 0 ≡ 43 → ⊥ =
+    elim c.in_default.branch [ in_default-via-then-t-lt1 w ↦ not_plus t (grind arith) | in_default-via-else-t-lt1+in_default-1 w ↦ (λ e. grind arith) ] in
+    c.digits-in_default.ensures ∙ ap octet_of (sym (unsigned_not t h))

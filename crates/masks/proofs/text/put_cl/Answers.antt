@@ -29,53 +29,55 @@ bounds-out-1 c = simp length-set (omega (arith, two_le c.args.p c.args.n c.args.
 pub put_decimal-requires : goal.put_decimal-requires
 put_decimal-requires c =
     let a = c.args in
-    simp length-set (omega (arith, one_length a.p a.n a.z c.if-z-eq0.true c.if-n-eq0.true))
+    simp length-set (omega (arith, one_length a.p a.n a.z c.if-z-ne0.false c.if-n-ne0.false))
 
-pub returns-then-n-eq0 : goal.returns-then-n-eq0
-returns-then-n-eq0 c =
+pub returns-else-n-ne0 : goal.returns-else-n-ne0
+returns-else-n-ne0 c =
     let a = c.args in
     letters (Cl a.p a.n a.z) (decimal a.p) a.out.now
-    (text_one a.p a.n a.z c.if-z-eq0.true c.if-n-eq0.true) c.requires c.put_decimal.ensures.1
+    (text_one a.p a.n a.z c.if-z-ne0.false c.if-n-ne0.false) c.requires c.put_decimal.ensures.1
+
+pub put_spaced-at-requires-then-n-ne0 : goal.put_spaced-at-requires-then-n-ne0
+put_spaced-at-requires-then-n-ne0 c =
+    let a = c.args in
+    simp length-set (omega (arith, two_length a.p a.n a.z c.if-z-ne0.false c.if-n-ne0.true))
+
+pub put_spaced-requires-then-n-ne0 : goal.put_spaced-requires-then-n-ne0
+put_spaced-requires-then-n-ne0 c =
+    let a = c.args in
+    let p = c.put_spaced-at-then-n-ne0 in
+    omega (arith, long _ a.out.now p.auto.out, p.ensures.0, c.requires, two_length a.p a.n a.z c.if-z-ne0.false c.if-n-ne0.true)
+
+pub returns-then-n-ne0 : goal.returns-then-n-ne0
+returns-then-n-ne0 c =
+    let a = c.args in
+    let p = c.put_spaced-at-then-n-ne0 in
+    let o = set (set a.out.now 0 67) 1 108 in
+    letters (Cl a.p a.n a.z) (spaced a.p ++ spaced a.n) a.out.now
+    (text_two a.p a.n a.z c.if-z-ne0.false c.if-n-ne0.true) c.requires
+    (sets_more o (spaced a.p) (spaced a.n) 2 p.result p.ensures.1 (omega (arith, p.ensures.0)) c.put_spaced-then-n-ne0.ensures.1)
 
 pub put_spaced-at-requires : goal.put_spaced-at-requires
 put_spaced-at-requires c =
     let a = c.args in
-    simp length-set (omega (arith, two_length a.p a.n a.z c.if-z-eq0.true c.if-n-eq0.false))
-
-pub put_spaced-requires : goal.put_spaced-requires
-put_spaced-requires c =
-    let a = c.args in
-    omega (arith, long _ a.out.now c.put_spaced-at.auto.out, c.put_spaced-at.ensures.0, c.requires, two_length a.p a.n a.z c.if-z-eq0.true c.if-n-eq0.false)
-
-pub returns-then-z-eq0 : goal.returns-then-z-eq0
-returns-then-z-eq0 c =
-    let a = c.args in
-    let o = set (set a.out.now 0 67) 1 108 in
-    letters (Cl a.p a.n a.z) (spaced a.p ++ spaced a.n) a.out.now
-    (text_two a.p a.n a.z c.if-z-eq0.true c.if-n-eq0.false) c.requires
-    (sets_more o (spaced a.p) (spaced a.n) 2 c.put_spaced-at.result c.put_spaced-at.ensures.1 (omega (arith, c.put_spaced-at.ensures.0)) c.put_spaced.ensures.1)
-
-pub put_spaced-at-requires-2 : goal.put_spaced-at-requires-2
-put_spaced-at-requires-2 c =
-    let a = c.args in
-    simp length-set (omega (arith, three_length a.p a.n a.z c.if-z-eq0.false))
+    simp length-set (omega (arith, three_length a.p a.n a.z c.if-z-ne0.true))
 
 pub put_spaced-next-requires : goal.put_spaced-next-requires
 put_spaced-next-requires c =
     let a = c.args in
-    omega (arith, long _ a.out.now c.put_spaced-at-2.auto.out, c.put_spaced-at-2.ensures.0, c.requires, three_length a.p a.n a.z c.if-z-eq0.false)
+    omega (arith, long _ a.out.now c.put_spaced-at.auto.out, c.put_spaced-at.ensures.0, c.requires, three_length a.p a.n a.z c.if-z-ne0.true)
 
-pub put_spaced-requires-2 : goal.put_spaced-requires-2
-put_spaced-requires-2 c =
+pub put_spaced-requires : goal.put_spaced-requires
+put_spaced-requires c =
     let a = c.args in
-    omega (arith, long _ a.out.now c.put_spaced-at-2.auto.out, c.put_spaced-at-2.ensures.0, c.put_spaced-next.ensures.0, c.requires, three_length a.p a.n a.z c.if-z-eq0.false)
+    omega (arith, long _ a.out.now c.put_spaced-at.auto.out, c.put_spaced-at.ensures.0, c.put_spaced-next.ensures.0, c.requires, three_length a.p a.n a.z c.if-z-ne0.true)
 
-pub returns : goal.returns
-returns c =
+pub returns-then-z-ne0 : goal.returns-then-z-ne0
+returns-then-z-ne0 c =
     let a = c.args in
     let o = set (set a.out.now 0 67) 1 108 in
-    let both = sets_more o (spaced a.p) (spaced a.n) 2 c.put_spaced-at-2.result c.put_spaced-at-2.ensures.1 (omega (arith, c.put_spaced-at-2.ensures.0)) c.put_spaced-next.ensures.1 in
+    let both = sets_more o (spaced a.p) (spaced a.n) 2 c.put_spaced-at.result c.put_spaced-at.ensures.1 (omega (arith, c.put_spaced-at.ensures.0)) c.put_spaced-next.ensures.1 in
     letters (Cl a.p a.n a.z) (spaced a.p ++ spaced a.n ++ spaced a.z) a.out.now
-    (text_three a.p a.n a.z c.if-z-eq0.false) c.requires
+    (text_three a.p a.n a.z c.if-z-ne0.true) c.requires
     (sets_more o (spaced a.p ++ spaced a.n) (spaced a.z) 2 c.put_spaced-next.result both
-    (omega (arith, c.put_spaced-at-2.ensures.0, c.put_spaced-next.ensures.0, length-append (spaced a.p) (spaced a.n))) c.put_spaced-2.ensures.1)
+    (omega (arith, c.put_spaced-at.ensures.0, c.put_spaced-next.ensures.0, length-append (spaced a.p) (spaced a.n))) c.put_spaced.ensures.1)

@@ -1,44 +1,59 @@
 use mathlib.Core.Path.{◌≡◌, sym, ap, ap₂, ◌∙◌}
 use mathlib.Core.List.{List}
 use Prim.Native.Nat.{ℕ}
+use borrow.Author.Tests.{eqb-true, eqb-false}
 use lib.ListN.{length}
+use Rattle.std.proofs.lemmas.Result.{err_from_is_err_and}
 use Rattle.masks.specs.declared.flavor.Flavor.TheVariants.{Cl}
-use Rattle.masks.specs.Text.{part, after_part, octet, or_zero, read_as}
-use Rattle.masks.proofs.TextLaws.{spec_missing, spec_four, spec_read}
-use Rattle.masks.proofs.text.read_spec.Goals.{After-after_part-rest}
+use Rattle.masks.specs.declared.outcome.Refusal.TheVariants.{NoSpec}
+use Rattle.masks.specs.Text.{octet, or_zero, part, after_part, read_as}
+use Rattle.masks.specs.inner.Text.{spec_of}
+use Rattle.masks.proofs.ListLaws.{missing_err}
+use Rattle.masks.proofs.TextLaws.{spec_missing, spec_four, spec_read, read_done, read_refused}
+use Rattle.masks.proofs.text.read_spec.Goals.{After-octet_in}
 use Rattle.masks.proofs.text.read_spec.Goals as goal
 
--- what was read, once the parts are found: the text, the first part as a u8, and what follows each part
-abbrev text : After-after_part-rest → List ℕ
-text a = a.before.before.before.before.before.before.args.t.now
+-- the parts
+module _ (c : After-octet_in) where
+  text : List ℕ
+  text = c.args.t.now
 
-first_is : (a : After-after_part-rest) → a.octet_in-first.result ≡ octet (part (text a))
-first_is a = a.octet_in-first.ensures ∙ ap octet a.first_part.ensures
+  first_is : c.octet_in.result ≡ octet (part c.args.t.now)
+  first_is = c.octet_in.ensures ∙ ap octet c.split_part.ensures.part
 
-second_is : (a : After-after_part-rest) → a.after_part-second.result.now ≡ after_part (text a)
-second_is a = a.after_part-second.ensures
+  second_is : c.split_part-2.result.0.now ≡ part (after_part c.args.t.now)
+  second_is = c.split_part-2.ensures.part ∙ ap part c.split_part.ensures.after
 
-third_is : (a : After-after_part-rest) → a.after_part-third.result.now ≡ after_part (after_part (text a))
-third_is a = a.after_part-third.ensures ∙ ap after_part (second_is a)
+  after_second : c.split_part-2.result.1.now ≡ after_part (after_part c.args.t.now)
+  after_second = c.split_part-2.ensures.after ∙ ap after_part c.split_part.ensures.after
 
-rest_is : (a : After-after_part-rest) → a.after_part-rest.result.now ≡ after_part (after_part (after_part (text a)))
-rest_is a = a.after_part-rest.ensures ∙ ap after_part (third_is a)
+  third_is : c.split_part-3.result.0.now ≡ part (after_part (after_part c.args.t.now))
+  third_is = c.split_part-3.ensures.part ∙ ap part after_second
 
-pub returns-then-first_part-ne0 : goal.returns-then-first_part-ne0
-returns-then-first_part-ne0 c =
-    let e = sym (first_is (goal.at.returns-then-first_part-ne0 c).After-after_part-rest) ∙ c.in-Is.is in
-    let k = ap length (c.first_part-in-Is.ensures ∙ ap part (rest_is (goal.at.returns-then-first_part-ne0 c).After-after_part-rest)) in
-    c.refused_read-then-first_part-ne0.ensures ∙ sym (spec_four (text (goal.at.returns-then-first_part-ne0 c).After-after_part-rest) c.in-Is.p e (λ q. c.if-first_part-ne0.true (k ∙ q)))
+  fourth_is : c.split_part-4.result.0.now ≡ part (after_part (after_part (after_part c.args.t.now)))
+  fourth_is = c.split_part-4.ensures.part ∙ ap part (c.split_part-3.ensures.after ∙ ap after_part after_second)
 
-pub returns-in-Missing : goal.returns-in-Missing
-returns-in-Missing c = c.refused_read.ensures ∙ sym (spec_missing (text (goal.at.returns-in-Missing c).After-after_part-rest) (sym (first_is (goal.at.returns-in-Missing c).After-after_part-rest) ∙ c.in-Missing.is))
+pub returns-in_err-p : goal.returns-in_err-p
+returns-in_err-p c =
+    let p = err_from_is_err_and c.from_residual.result c.from_residual.ensures.1 in
+    let f = c.in_err-p in
+    let a = (goal.at.returns-in_err-p c).After-octet_in in
+    rw (p.1, p.2, missing_err _ _ _ f.ensures.value)
+    (read_refused (spec_of c.args.t.now) NoSpec (spec_missing c.args.t.now (sym (first_is a) ∙ f.ensures.ok_part)))
 
-pub returns-else-first_part-ne0 : goal.returns-else-first_part-ne0
-returns-else-first_part-ne0 c =
-    let e = sym (first_is (goal.at.returns-else-first_part-ne0 c).After-after_part-rest) ∙ c.in-Is.is in
-    let k = ap length (c.first_part-in-Is.ensures ∙ ap part (rest_is (goal.at.returns-else-first_part-ne0 c).After-after_part-rest)) in
-    let s = c.octet_or_zero.ensures ∙ ap (λ x. or_zero (octet x)) (c.first_part-in-Is-2.ensures ∙ ap part (second_is (goal.at.returns-else-first_part-ne0 c).After-after_part-rest)) in
-    let t = c.octet_or_zero-in-Is.ensures ∙ ap (λ x. or_zero (octet x)) (c.first_part-in-Is-3.ensures ∙ ap part (third_is (goal.at.returns-else-first_part-ne0 c).After-after_part-rest)) in
-    c.read_as.ensures
-    ∙ ap₂ (λ n z. read_as (Cl c.in-Is.p n z)) s t
-    ∙ sym (spec_read (text (goal.at.returns-else-first_part-ne0 c).After-after_part-rest) c.in-Is.p e (sym k ∙ c.if-first_part-ne0.false))
+pub returns-then-not-is_empty : goal.returns-then-not-is_empty
+returns-then-not-is_empty c =
+    let a = (goal.at.returns-then-not-is_empty c).After-octet_in in
+    let h : length c.split_part-4.result.0.now ≡ 0 → ⊥ = eqb-false _ _ (sym c.is_empty.ensures ∙ c.if-not-is_empty.true) in
+    read_refused (spec_of c.args.t.now) NoSpec
+    (spec_four c.args.t.now c.in_ok-p.p (sym (first_is a) ∙ c.in_ok-p.ensures.ok_part) (λ q. h (ap length (fourth_is a) ∙ q)))
+
+pub returns : goal.returns
+returns c =
+    let a = (goal.at.returns c).After-octet_in in
+    let h : length c.split_part-4.result.0.now ≡ 0 = eqb-true _ _ (sym c.is_empty.ensures ∙ c.if-not-is_empty.false) in
+    let s = c.octet_or_zero.ensures ∙ ap (λ x. or_zero (octet x)) (second_is a) in
+    let t = c.octet_or_zero-2.ensures ∙ ap (λ x. or_zero (octet x)) (third_is a) in
+    read_done (spec_of c.args.t.now) (Cl c.in_ok-p.p c.octet_or_zero.result c.octet_or_zero-2.result)
+    (spec_read c.args.t.now c.in_ok-p.p (sym (first_is a) ∙ c.in_ok-p.ensures.ok_part) (sym (ap length (fourth_is a)) ∙ h)
+    ∙ sym (ap₂ (λ n z. read_as (Cl c.in_ok-p.p n z)) s t))

@@ -9,6 +9,7 @@ use lib.Seq.{set_split, length-take-le}
 use Rattle.masks.specs.Order.{order}
 use Rattle.masks.specs.Outcome.{laid}
 use Rattle.masks.specs.Shape.{coef}
+use Rattle.masks.specs.Build.{odd_of}
 use Rattle.masks.specs.Unpack.{choose, half_masks}
 use Rattle.masks.proofs.OrderLaws.{blades_le}
 use Rattle.masks.proofs.UnpackLaws.{lone_mask, half_masks_lem, half_held}
@@ -27,44 +28,44 @@ chosen : (odd lone dims d : ℕ) (a out : List Float) → (d ≡ 0 → ⊥) → 
 chosen odd lone dims d a out h = rw (half_masks_lem odd lone d h)
 
 pub bounds-out-0 : goal.bounds-out-0
-bounds-out-0 c = room c.args.d _ c.requires.4
+bounds-out-0 c = room c.args.d _ c.requires.3
 
 pub returns-then-d-eq0 : goal.returns-then-d-eq0
 returns-then-d-eq0 c =
-    set_split c.args.out.now 0 c.coefficient.result (room c.args.d _ c.requires.4)
-    ∙ rw (c.coefficient.ensures, lone_mask c.args.odd c.args.lone c.args.d c.if-d-eq0.true)
+    set_split c.args.out.now 0 c.coefficient.result (room c.args.d _ c.requires.3)
+    ∙ rw (c.coefficient.ensures, lone_mask (odd_of c.args.parity) c.args.lone c.args.d c.if-d-eq0.true)
 
 pub take_half-requires : goal.take_half-requires
 take_half-requires c =
     let p = c.requires in
-    (p.0, omega (arith, c.if-d-eq0.false), p.2, p.3 ∙ ap (λ n. 2 ^ n) (sym c.if-d-dims.true), p.4)
+    (omega (arith, c.if-d-eq0.false), p.1, p.2 ∙ ap (λ n. 2 ^ n) (sym c.if-d-dims.true), p.3)
 
 pub returns-then-d-dims : goal.returns-then-d-dims
 returns-then-d-dims c =
     let a = c.args in
     c.take_half.ensures
-    ∙ ap (λ n. laid (map (coef n a.a.now) (choose a.odd (order a.d))) a.out.now) c.if-d-dims.true
-    ∙ chosen a.odd a.lone a.dims a.d a.a.now a.out.now c.if-d-eq0.false
+    ∙ ap (λ n. laid (map (coef n a.a.now) (choose (odd_of a.parity) (order a.d))) a.out.now) c.if-d-dims.true
+    ∙ chosen (odd_of a.parity) a.lone a.dims a.d a.a.now a.out.now c.if-d-eq0.false
 
 pub read_all-requires : goal.read_all-requires
 read_all-requires c =
     let p = c.requires in
-    (p.1, p.2, p.3, blades_le c.args.d c.requires.2)
+    (p.0, p.1, p.2, blades_le c.args.d c.requires.1)
 
 pub slice_bounds-held-end : goal.slice_bounds-held-end
-slice_bounds-held-end c = enough c.args.d _ _ c.requires.2 c.blades-count.ensures c.read_all.auto.out
+slice_bounds-held-end c = enough c.args.d _ _ c.requires.1 c.blades-count.ensures c.read_all.auto.out
 
 pub slice_bounds-take_half-end : goal.slice_bounds-take_half-end
-slice_bounds-take_half-end c = sym (length-take-le _ _ (enough c.args.d _ _ c.requires.2 c.blades-count.ensures c.read_all.auto.out))
+slice_bounds-take_half-end c = sym (length-take-le _ _ (enough c.args.d _ _ c.requires.1 c.blades-count.ensures c.read_all.auto.out))
 
 pub take_half-requires-2 : goal.take_half-requires-2
 take_half-requires-2 c =
     let p = c.requires in
-    (p.0, omega (arith, c.if-d-eq0.false), p.2, length-take-le _ _ (enough c.args.d _ _ c.requires.2 c.blades-count.ensures c.read_all.auto.out) ∙ c.blades-count.ensures, p.4)
+    (omega (arith, c.if-d-eq0.false), p.1, length-take-le _ _ (enough c.args.d _ _ c.requires.1 c.blades-count.ensures c.read_all.auto.out) ∙ c.blades-count.ensures, p.3)
 
 pub returns : goal.returns
 returns c =
     let a = c.args in
     c.take_half-2.ensures
-    ∙ ap (λ xs. laid xs a.out.now) (half_held a.odd a.dims a.d _ a.a.now _ _ c.blades-count.ensures c.read_all.ensures)
-    ∙ chosen a.odd a.lone a.dims a.d a.a.now a.out.now c.if-d-eq0.false
+    ∙ ap (λ xs. laid xs a.out.now) (half_held (odd_of a.parity) a.dims a.d _ a.a.now _ _ c.blades-count.ensures c.read_all.ensures)
+    ∙ chosen (odd_of a.parity) a.lone a.dims a.d a.a.now a.out.now c.if-d-eq0.false

@@ -5,8 +5,5 @@ use Rattle.masks.proofs.unpack.half_count.Goals as goal
 pub returns-then-dims-gt-MAX_DIMS : goal.returns-then-dims-gt-MAX_DIMS
 returns-then-dims-gt-MAX_DIMS c = rw (lt-ltb 9 c.args.dims (omega arith))
 
-pub returns-then-dims-eq0 : goal.returns-then-dims-eq0
-returns-then-dims-eq0 c = rw c.if-dims-eq0.true
-
 pub returns : goal.returns
-returns c = rw (le-ltb 9 c.args.dims (omega arith)) c.blades.ensures
+returns c = rw (le-ltb 9 c.args.dims (omega arith), ← c.saturating_sub.ensures) c.blades.ensures

@@ -2,15 +2,17 @@ use mathlib.Core.Path.{◌≡◌, refl, sym, ap, ◌∙◌}
 use mathlib.Core.List.{map}
 use Prim.Native.Nat.{ℕ, suc, ◌+◌, ◌%◌, ◌≤◌}
 use native.Mathlib.Omega.{arith}
+use borrow.Author.Tests.{eqb-true, eqb-false}
 use lib.ListN.{length}
 use Rattle.masks.specs.Order.{grades_below, order, size, start}
 use Rattle.masks.specs.Outcome.{laid}
 use Rattle.masks.specs.Shape.{coef}
+use Rattle.masks.specs.Build.{odd_of}
 use Rattle.masks.specs.Unpack.{choose}
 use Rattle.masks.proofs.OrderLaws.{part_fits, start_next}
-use Rattle.masks.proofs.BuildLaws.{counted_zero, half_count}
+use Rattle.masks.proofs.BuildLaws.{odd-le, counted, counted_zero, half_count}
 use Rattle.masks.proofs.GradeParts.{counted_within, counted_more, counted_same, taken_more, taken_same}
-use Rattle.masks.proofs.unpack.take_half.Goals.{At-loop-g, then-g-odd, else-g-odd}
+use Rattle.masks.proofs.unpack.take_half.Goals.{At-loop-g, Joined-has, then-has, else-has}
 use Rattle.masks.proofs.unpack.take_half.Goals as goal
 
 -- in each turn the value has the grade's numbers, and where it has the parity there is room for them
@@ -18,58 +20,73 @@ module _ (c : At-loop-g) (n : ℕ) (e : n ≡ size c.args.dims c.loop-g.g) (h : 
   part : c.loop-g.i + n ≤ length c.args.a.now
   part = omega (arith, part_fits c.args.dims c.loop-g.g h)
 
-  room : c.loop-g.g % 2 ≡ c.args.odd → c.loop-g.k + n ≤ length c.args.out.now
+  room : c.loop-g.g % 2 ≡ odd_of c.args.parity → c.loop-g.k + n ≤ length c.args.out.now
   room p =
-      let odd : ℕ = c.args.odd in
+      let odd : ℕ = odd_of c.args.parity in
       let d : ℕ = c.args.dims in
       let g : ℕ = c.loop-g.g in
-      omega (arith, counted_more odd d g p, counted_within odd d (g + 1) c.requires.0 c.requires.1 (omega arith), half_count odd d c.requires.0 c.requires.1)
+      let o : odd ≤ 1 = odd-le c.args.parity in
+      omega (arith, counted_more odd d g p, counted_within odd d (g + 1) o c.requires.0 (omega arith), half_count odd d o c.requires.0)
 
 pub loop-g-init : goal.loop-g-init
 unfolding start grades_below choose
-loop-g-init c = (omega arith, refl, sym (counted_zero c.args.odd c.args.dims), refl)
+loop-g-init c = record { passed = refl; put = sym (counted_zero (odd_of c.args.parity) c.args.dims); filled = refl }
 
 pub copy_part-requires : goal.copy_part-requires
 copy_part-requires c =
     let l = (goal.at.copy_part-requires c).At-loop-g in
     let n = c.size_of-count in
-    (part l n.result n.ensures (omega arith), omega (arith, room l n.result n.ensures (omega arith) c.if-g-odd.true))
+    let p = eqb-true _ _ (sym c.has.ensures ∙ c.if-has.true) in
+    (part l n.result n.ensures (omega arith), omega (arith, room l n.result n.ensures (omega arith) p))
 
 pub overflow_add-k : goal.overflow_add-k
 overflow_add-k c =
     let n = c.size_of-count in
-    omega (arith, room (goal.at.overflow_add-k c).At-loop-g n.result n.ensures (omega arith) c.if-g-odd.true)
+    let p = eqb-true _ _ (sym c.has.ensures ∙ c.if-has.true) in
+    omega (arith, room (goal.at.overflow_add-k c).At-loop-g n.result n.ensures (omega arith) p)
 
 pub overflow_add-i : goal.overflow_add-i
 overflow_add-i c =
     let n = c.size_of-count in
     omega (arith, part (goal.at.overflow_add-i c).At-loop-g n.result n.ensures (omega arith))
 
-pub loop-g-preserved : goal.loop-g-preserved
-loop-g-preserved c =
+-- after each turn
+step : (c : Joined-has) → (c.loop-g.g % 2 ≡ odd_of c.args.parity → c.loop-g.k + c.size_of-count.result ≤ length c.args.out.now) → ((c.loop-g.i + c.size_of-count.result ≡ start c.args.dims (c.loop-g.g + 1)) × (c.if-has.k ≡ counted (odd_of c.args.parity) c.args.dims (c.loop-g.g + 1)) × (c.if-has.out ≡ laid (map (coef c.args.dims c.args.a.now) (choose (odd_of c.args.parity) (grades_below c.args.dims (c.loop-g.g + 1)))) c.args.out.now))
+step c enough =
     let l = c.loop-g in
     let e = c.size_of-count.ensures in
     let a = c.args in
-    let i : l.i + c.size_of-count.result ≡ start a.dims (l.g + 1) = omega (arith, e, l.invariant.1, start_next a.dims l.g) in
-    elim c.if-g-odd.branch [
-      | then-g-odd w ↦ (
-        omega arith,
-        i,
-        omega (arith, counted_more a.odd a.dims l.g w.if-g-odd.true),
-        w.out-is ∙ w.copy_part.ensures
-            ∙ rw (l.invariant.3, l.invariant.2, l.invariant.1, e) (taken_more a.odd a.dims l.g a.a.now a.out.now c.requires.3 w.if-g-odd.true (omega (arith, l.invariant.2, e, room (goal.at.loop-g-preserved c).At-loop-g c.size_of-count.result e c.loop-g-test.true w.if-g-odd.true))),
-      )
-      | else-g-odd w ↦ (
-        omega arith,
-        i,
-        w.k-is ∙ l.invariant.2 ∙ sym (counted_same a.odd a.dims l.g w.if-g-odd.false),
-        w.out-is ∙ l.invariant.3 ∙ taken_same a.odd a.dims l.g a.a.now a.out.now w.if-g-odd.false,
-      )
+    let odd : ℕ = odd_of a.parity in
+    let h : l.g ≤ a.dims = omega arith in
+    let i = l.invariant in
+    let s : l.i + c.size_of-count.result ≡ start a.dims (l.g + 1) = omega (arith, e, i.passed, start_next a.dims l.g) in
+    elim c.if-has.branch [
+      | then-has w ↦
+          let p : l.g % 2 ≡ odd = eqb-true _ _ (sym c.has.ensures ∙ w.if-has.true) in (
+            s,
+            omega (arith, i.put, e, w.k-is, counted_more odd a.dims l.g p),
+            w.out-is ∙ w.copy_part.ensures
+                ∙ rw (i.filled, i.put, i.passed, e) (taken_more odd a.dims l.g a.a.now a.out.now c.requires.2 p (omega (arith, i.put, e, enough p))),
+          )
+      | else-has w ↦
+          let p : l.g % 2 ≡ odd → ⊥ = eqb-false _ _ (sym c.has.ensures ∙ w.if-has.false) in (
+            s,
+            w.k-is ∙ i.put ∙ sym (counted_same odd a.dims l.g p),
+            w.out-is ∙ i.filled ∙ taken_same odd a.dims l.g a.a.now a.out.now p,
+          )
     ]
 
-pub returns : goal.returns
+pub loop-g-preserved : goal.loop-g-preserved
+loop-g-preserved c =
+    let at = goal.at.loop-g-preserved c in
+    let s = step at.Joined-has (room at.At-loop-g c.size_of-count.result c.size_of-count.ensures (omega arith)) in
+    record { passed = s.0; put = s.1; filled = s.2 }
+
+pub returns-after-has : goal.returns-after-has
 unfolding order
-returns c =
+returns-after-has c =
     let a = c.args in
-    let e : c.loop-g.g ≡ suc a.dims = omega arith in
-    c.loop-g.invariant.3 ∙ ap (λ (n : ℕ). laid (map (coef a.dims a.a.now) (choose a.odd (grades_below a.dims n))) a.out.now) e
+    let at = goal.at.returns-after-has c in
+    let s = step at.Joined-has (room at.At-loop-g c.size_of-count.result c.size_of-count.ensures (omega arith)) in
+    let e : c.loop-g.g + 1 ≡ suc a.dims = grind arith in
+    s.2 ∙ ap (λ (n : ℕ). laid (map (coef a.dims a.a.now) (choose (odd_of a.parity) (grades_below a.dims n))) a.out.now) e

@@ -9,6 +9,3 @@ use Rattle.masks.proofs.walk.grow.Given as goal
 
 abbrev pub invariant-loop-k : goal.invariant-loop-k
 invariant-loop-k l = Walking l.dims l.n l.last l.low l.k l.x l.i l.end × Filled nan (map (coef l.dims l.a) (order l.n)) l.initial.out l.out l.k (2 ^ l.n - l.k)
-
-abbrev pub decreases-loop-k : goal.decreases-loop-k
-decreases-loop-k l = 2 ^ l.n - l.k

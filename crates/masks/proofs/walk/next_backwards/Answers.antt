@@ -6,7 +6,6 @@ use lib.Bits.{bit_and, and_le_l}
 use lib.Count.{count_trailing_zeros}
 use lib.Pow.{shr_le}
 use Rattle.masks.proofs.ListLaws.{split}
-use Rattle.masks.proofs.OrderLaws.{blades_le}
 use Rattle.masks.proofs.OrderBackwards.{lowest_within, next_first, next_others}
 use Rattle.masks.proofs.walk.next_backwards.Goals.{Start}
 use Rattle.masks.proofs.walk.next_backwards.Goals as goal
@@ -27,26 +26,14 @@ module _ (s : Start) where
   others h =
       lowest_within d (bit_and x (x + 1)) s.requires.0 (⊎_elim (λ (l : 0 < bit_and x (x + 1)). l) (λ (l : bit_and x (x + 1) ≤ 0). absurd (h (omega arith))) (split 0 (bit_and x (x + 1)))) (omega (arith, and_le_l x (x + 1), s.requires.1))
 
-pub overflow_add-y : goal.overflow_add-y
-overflow_add-y c = omega (arith, c.requires.1, blades_le c.args.dims c.requires.0)
-
-pub overflow_add-result : goal.overflow_add-result
-overflow_add-result c = omega (arith, few (goal.at.overflow_add-result c).Start)
-
 pub overflow_shr-result : goal.overflow_shr-result
 overflow_shr-result c = omega (arith, few (goal.at.overflow_shr-result c).Start)
-
-pub overflow_sub-result : goal.overflow_sub-result
-overflow_sub-result c = shr_le _ (count_trailing_zeros 32 (x (goal.at.overflow_sub-result c).Start + 1) + 1)
 
 pub returns-then-others-eq0 : goal.returns-then-others-eq0
 returns-then-others-eq0 c = rw c.bit-first.ensures (sym (next_first (d (goal.at.returns-then-others-eq0 c).Start) (x (goal.at.returns-then-others-eq0 c).Start) c.requires.0 c.if-others-eq0.true))
 
 pub bit-requires : goal.bit-requires
 bit-requires c = omega (arith, (others (goal.at.bit-requires c).Start c.if-others-eq0.false).1)
-
-pub overflow_add-result-2 : goal.overflow_add-result-2
-overflow_add-result-2 c = omega (arith, few (goal.at.overflow_add-result-2 c).Start)
 
 pub overflow_shr-result-2 : goal.overflow_shr-result-2
 overflow_shr-result-2 c = omega (arith, few (goal.at.overflow_shr-result-2 c).Start)

@@ -1,5 +1,4 @@
 use mathlib.Core.List.{map}
-use Prim.Native.Nat.{◌-◌, ◌^◌}
 use lib.Ieee.{nan}
 use Rattle.masks.specs.Order.{order}
 use Rattle.masks.specs.Shape.{coef}
@@ -9,6 +8,3 @@ use Rattle.masks.proofs.walk.shrink.Given as goal
 
 abbrev pub invariant-loop-k : goal.invariant-loop-k
 invariant-loop-k l = Walking l.dims l.n l.last l.low l.k l.x l.at l.end × Filled nan (map (coef l.n l.a) (order l.dims)) l.initial.out l.out l.at l.end
-
-abbrev pub decreases-loop-k : goal.decreases-loop-k
-decreases-loop-k l = 2 ^ l.n - l.k

@@ -8,7 +8,7 @@ use Rattle.clifford.specs.Blade.{count}
 use Rattle.clifford.specs.Pairs.{nonzero, nulls}
 use Rattle.masks.specs.Flavor.{metric_of}
 use Rattle.product.proofs.PairsBounds.{nulls_le}
-use Rattle.product.proofs.pairs.null_count.Goals.{After-is_null-n}
+use Rattle.product.proofs.pairs.null_count.Goals.{After-is_null, then-is_null, else-is_null}
 use Rattle.product.proofs.pairs.null_count.Goals as goal
 
 -- One more vector counts where it squares to 0.
@@ -17,26 +17,22 @@ unfolding nulls count
 nulls_next g i = rw (add-one i)
 
 -- What n is after its step.
-next : (c : After-is_null-n)
-    → c.loop-i.n + c.is_null-n.result ≡ nulls (metric_of c.args.flavor) (c.loop-i.i + 1)
+next : (c : After-is_null) → c.loop-i.n + cond c.is_null.result 1 0 ≡ nulls (metric_of c.args.flavor) (c.loop-i.i + 1)
 next c =
     let l = c.loop-i in
     let g = metric_of c.args.flavor in
-    (rw (l.invariant.1, c.is_null-n.ensures, c.metric.ensures)) ∙ sym (nulls_next g l.i)
+    (rw (l.invariant, c.is_null.ensures, c.metric.ensures)) ∙ sym (nulls_next g l.i)
 
 pub loop-i-init : goal.loop-i-init
 unfolding nulls count
-loop-i-init c = (omega arith, refl)
+loop-i-init c = refl
 
 pub overflow_add-n : goal.overflow_add-n
 overflow_add-n c =
-    let l = c.loop-i in
-    omega (arith, next (goal.at.overflow_add-n c).After-is_null-n, nulls_le (metric_of c.args.flavor) (l.i + 1))
+    let e = next (goal.at.overflow_add-n c).After-is_null in
+    omega (arith, rw c.if-is_null.true at e, nulls_le (metric_of c.args.flavor) (c.loop-i.i + 1))
 
 pub loop-i-preserved : goal.loop-i-preserved
-loop-i-preserved c = (omega arith, next (goal.at.loop-i-preserved c).After-is_null-n)
-
-pub returns : goal.returns
-returns c =
-    let e : c.loop-i.i ≡ c.args.dims = omega arith in
-    rw (← e) c.loop-i.invariant.1
+loop-i-preserved c =
+    let e = next (goal.at.loop-i-preserved c).After-is_null in
+    elim c.if-is_null.branch [ then-is_null w ↦ omega (arith, rw w.if-is_null.true at e) | else-is_null w ↦ omega (arith, rw w.if-is_null.false at e) ]

@@ -1,11 +1,7 @@
 use mathlib.Core.Path.{◌≡◌}
-use Prim.Native.Nat.{◌-◌, ◌≤◌}
 use Rattle.clifford.specs.Pairs.{nulls}
 use Rattle.masks.specs.Flavor.{metric_of}
 use Rattle.product.proofs.pairs.null_count.Given as goal
 
 abbrev pub invariant-loop-i : goal.invariant-loop-i
-invariant-loop-i l = (l.i ≤ l.dims) × (l.n ≡ nulls (metric_of l.flavor) l.i)
-
-abbrev pub decreases-loop-i : goal.decreases-loop-i
-decreases-loop-i l = l.dims - l.i
+invariant-loop-i l = l.n ≡ nulls (metric_of l.flavor) l.i

@@ -1,9 +1,10 @@
 use mathlib.Core.Path.{◌≡◌, refl, sym, ◌∙◌}
+use mathlib.Core.Logic.{⊎_elim}
 use Prim.Native.Nat.{ℕ, ◌+◌, ◌*◌, ◌≤◌}
 use native.Mathlib.Omega.{arith}
 use Rattle.masks.specs.declared.flavor.Flavor.{Flavor}
 use Rattle.masks.specs.Flavor.{null_flavor}
-use Rattle.product.specs.declared.mode.Mode.TheVariants.{All, Outer}
+use Rattle.product.specs.declared.mode.Mode.TheVariants.{All, Left, Right, Outer}
 use Rattle.product.specs.Mode.{takes, flavor_for}
 use Rattle.product.specs.Pairwise.{pairs_of}
 use Rattle.product.proofs.PairsLaws.{pairs_all, pairs_left, pairs_right, pairs_inner}
@@ -34,9 +35,6 @@ choices-requires c = (omega arith, omega arith, few (goal.at.choices-requires c)
 pub choices-requires-in-Left : goal.choices-requires-in-Left
 choices-requires-in-Left c = (omega arith, omega arith, few (goal.at.choices-requires-in-Left c).After-null_count-null, c.requires)
 
-pub choices-requires-in-Right : goal.choices-requires-in-Right
-choices-requires-in-Right c = (omega arith, omega arith, few (goal.at.choices-requires-in-Right c).After-null_count-null, c.requires)
-
 pub choices-requires-in-Inner : goal.choices-requires-in-Inner
 choices-requires-in-Inner c = (omega arith, omega arith, few (goal.at.choices-requires-in-Inner c).After-null_count-null, c.requires)
 
@@ -46,24 +44,17 @@ overflow_sub-dims c = few (goal.at.overflow_sub-dims c).After-null_count-null
 pub overflow_sub-result : goal.overflow_sub-result
 overflow_sub-result c = omega (arith, inner c)
 
-pub choices-requires-in-Outer : goal.choices-requires-in-Outer
-choices-requires-in-Outer c = (omega arith, omega arith, few (goal.at.choices-requires-in-Outer c).After-null_count-null, c.requires)
-
 pub returns-in-All : goal.returns-in-All
 unfolding flavor_for
-returns-in-All c = rw (c.choices.ensures.0, c.null_count-null.ensures, c.flavor_for.ensures, c.in-All.is) (sym (pairs_all _ _))
+returns-in-All c =
+    let e = rw (c.null_count-null.ensures, c.flavor_for.ensures) at c.choices.ensures.0 in
+    ⊎_elim (λ (m : c.args.mode ≡ All). e ∙ rw m (sym (pairs_all _ _))) (λ (m : c.args.mode ≡ Outer). e ∙ rw m (sym (outer _ _ ∙ pairs_all _ _))) c.in-All.is
 
 pub returns-in-Left : goal.returns-in-Left
 unfolding flavor_for
-returns-in-Left c = rw (c.choices-in-Left.ensures.0, c.null_count-null.ensures, c.flavor_for.ensures, c.in-Left.is) (sym (pairs_left _ _))
-
-pub returns-in-Right : goal.returns-in-Right
-unfolding flavor_for
-returns-in-Right c = rw (c.choices-in-Right.ensures.0, c.null_count-null.ensures, c.flavor_for.ensures, c.in-Right.is) (sym (pairs_right _ _))
+returns-in-Left c =
+    let e = rw (c.null_count-null.ensures, c.flavor_for.ensures) at c.choices-in-Left.ensures.0 in
+    ⊎_elim (λ (m : c.args.mode ≡ Left). e ∙ rw m (sym (pairs_left _ _))) (λ (m : c.args.mode ≡ Right). e ∙ rw m (sym (pairs_right _ _))) c.in-Left.is
 
 pub returns-in-Inner : goal.returns-in-Inner
 returns-in-Inner c = omega (arith, inner c)
-
-pub returns-in-Outer : goal.returns-in-Outer
-unfolding flavor_for
-returns-in-Outer c = rw (c.choices-in-Outer.ensures.0, c.null_count-null.ensures, c.flavor_for.ensures, c.in-Outer.is) (sym (outer _ _ ∙ pairs_all _ _))

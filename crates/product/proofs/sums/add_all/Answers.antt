@@ -1,18 +1,16 @@
-use mathlib.Core.Path.{◌≡◌, refl, sym, ◌∙◌, ap}
+use mathlib.Core.Path.{◌≡◌, refl, sym, ◌∙◌, ap, ap₂}
 use mathlib.Core.Bool.{true, ◌||◌}
 use mathlib.Core.List.{List}
 use mathlib.Core.Logic.{⊎_elim}
 use Prim.Native.Nat.{ℕ, ◌+◌, ◌^◌, ◌≤◌, ◌<◌}
 use native.Mathlib.Omega.{arith}
-use lib.Bits.{xor_lt}
 use lib.Dec.{ltb, eqb}
 use lib.Ieee.{Float}
-use lib.ListN.{length}
 use borrow.Author.Tests.{lt-ltb, le-ltb}
+use Rattle.std.proofs.Common.{Bor}
 use Rattle.masks.proofs.ListLaws.{split}
-use Rattle.masks.proofs.OrderLaws.{blades_le}
 use Rattle.product.proofs.Subsets.{before_or_at, neither_before}
-use Rattle.product.proofs.SumsPairs.{pairs_length, pairs_ext, pairs_none, with_pair, pairs_more}
+use Rattle.product.proofs.SumsPairs.{pairs_ext, pairs_none, with_pair, pairs_more}
 use Rattle.product.proofs.sums.add_all.Goals.{At-loop-m}
 use Rattle.product.proofs.sums.add_all.Goals as goal
 
@@ -22,55 +20,37 @@ below_more m k =
     ⊎_elim (λ (l : m < k). le-ltb k (m + 1) (omega arith) ∙ sym (neither_before k m l))
     (λ (l : k ≤ m). lt-ltb k (m + 1) (omega arith) ∙ sym (before_or_at k m l)) (split m k)
 
--- The sums keep their length.
-kept : (c : At-loop-m) → length c.loop-m.acc ≡ 2 ^ c.args.dims
-kept c =
-    let a = c.args in
-    ap length c.loop-m.invariant.1 ∙ pairs_length a.blade a.y a.am.now (λ k. ltb k c.loop-m.m) a.acc.now ∙ c.requires.3
-
 pub loop-m-init : goal.loop-m-init
 loop-m-init c =
     let a = c.args in
-    (omega arith, sym (pairs_none a.blade a.y a.am.now a.dims c.requires.1 a.acc.now c.requires.3 (λ k. ltb k 0) (λ k l. le-ltb k 0 (omega arith))))
-
-pub overflow_cast-m : goal.overflow_cast-m
-overflow_cast-m c = omega (arith, blades_le c.args.dims c.requires.0)
-
-pub slice_bounds-add_pair-end : goal.slice_bounds-add_pair-end
-slice_bounds-add_pair-end c = refl
-
-pub add_pair-requires : goal.add_pair-requires
-add_pair-requires c =
-    let a = c.args in
-    let size = kept (goal.at.add_pair-requires c).At-loop-m in
-    let low : c.loop-m.m < 2 ^ a.dims = omega arith in
-    (c.requires.0, low, omega arith, omega (arith, xor_lt a.dims c.loop-m.m a.blade.mask low c.requires.1), refl)
-
-pub overflow_add-m : goal.overflow_add-m
-overflow_add-m c = omega (arith, blades_le c.args.dims c.requires.0)
-
-pub loop-m-smaller : goal.loop-m-smaller
-loop-m-smaller c = omega (arith, kept (goal.at.loop-m-smaller c).At-loop-m)
+    let s = a.sums.now in
+    record {
+      same_reference = refl;
+      kept = (refl, refl);
+      added = sym (pairs_none a.blade a.y s.am.now s.dims c.requires s.acc.now s.sized (λ k. ltb k 0) (λ k l. le-ltb k 0 (omega arith)));
+    }
 
 pub loop-m-preserved : goal.loop-m-preserved
 loop-m-preserved c =
     let a = c.args in
+    let s = a.sums.now in
     let m = c.loop-m.m in
-    let size = kept (goal.at.loop-m-preserved c).At-loop-m in
-    let low : m < 2 ^ a.dims = omega arith in (
-      omega arith,
-      c.add_pair.ensures
-          ∙ ap (λ (w : List Float). with_pair m a.blade a.y a.am.now w) c.loop-m.invariant.1
-          ∙ pairs_more a.blade a.y a.am.now a.dims c.requires.1 a.acc.now c.requires.3 (λ k. ltb k m) (λ k. ltb k (m + 1)) m low
-          (le-ltb m m (omega arith)) (λ k h. below_more m k),
-    )
+    let i = c.loop-m.invariant in
+    let e = c.add_pair.ensures in
+    let low : m < 2 ^ s.dims = omega (arith, s.sized) in
+    record {
+      same_reference = e.same_reference ∙ i.same_reference;
+      kept = (e.kept.0 ∙ i.kept.0, e.kept.1 ∙ i.kept.1);
+      added =
+          e.added
+          ∙ ap₂ (λ (u v : List Float). with_pair m a.blade a.y u v) (ap (λ (u : Bor (List Float)). u.now) i.kept.1) i.added
+          ∙ pairs_more a.blade a.y s.am.now s.dims c.requires s.acc.now s.sized (λ k. ltb k m) (λ k. ltb k (m + 1)) m low
+          (le-ltb m m (omega arith)) (λ k h. below_more m k);
+    }
 
-pub shape_of-acc : goal.shape_of-acc
-shape_of-acc c = kept (goal.at.shape_of-acc c).At-loop-m ∙ sym c.requires.3
-
-pub returns : goal.returns
-returns c =
+pub returns-clause-added : goal.returns-clause-added
+returns-clause-added c =
     let a = c.args in
-    let size = kept (goal.at.returns c).At-loop-m in
-    c.loop-m.invariant.1
-    ∙ pairs_ext a.blade a.y a.am.now a.dims c.requires.1 a.acc.now c.requires.3 (λ k. ltb k c.loop-m.m) (λ k. true) (λ k h. lt-ltb k c.loop-m.m (omega arith))
+    let s = a.sums.now in
+    c.loop-m.invariant.added
+    ∙ pairs_ext a.blade a.y s.am.now s.dims c.requires s.acc.now s.sized (λ k. ltb k c.loop-m.m) (λ k. true) (λ k h. lt-ltb k c.loop-m.m (omega (arith, s.sized)))

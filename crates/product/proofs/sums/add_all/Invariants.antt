@@ -1,12 +1,13 @@
 use mathlib.Core.Path.{◌≡◌}
-use Prim.Native.Nat.{◌-◌, ◌≤◌}
 use lib.Dec.{ltb}
-use lib.ListN.{length}
 use Rattle.product.specs.inner.Sums.{with_pairs}
 use Rattle.product.proofs.sums.add_all.Given as goal
 
 abbrev pub invariant-loop-m : goal.invariant-loop-m
-invariant-loop-m l = (l.m ≤ length l.initial.acc) × (l.acc ≡ with_pairs (λ k. ltb k l.m) l.blade l.y l.am l.initial.acc)
-
-abbrev pub decreases-loop-m : goal.decreases-loop-m
-decreases-loop-m l = length l.initial.acc - l.m
+invariant-loop-m l =
+    let s = l.initial.sums in
+    record {
+      same_reference : l.sums.acc.ghost_name ≡ s.acc.ghost_name;
+      kept : (l.sums.dims ≡ s.dims) × (l.sums.am ≡ s.am);
+      added : l.sums.acc.now ≡ with_pairs (λ k. ltb k l.m) l.blade l.y s.am.now s.acc.now;
+    }

@@ -11,33 +11,35 @@ use Rattle.product.proofs.SumsTests.{free_of, free_lt, free_add, free_apart, bey
 use Rattle.product.proofs.sums.add_beyond.Goals as goal
 
 pub overflow_cast-n : goal.overflow_cast-n
-overflow_cast-n c = omega (arith, blades_le c.args.dims c.requires.0)
+overflow_cast-n c = let s = c.args.sums.now in omega (arith, s.sized, blades_le s.dims s.few)
 
 pub overflow_sub-n : goal.overflow_sub-n
-overflow_sub-n c = omega (arith, free_lt c.args.dims (length c.args.acc.now) c.requires.3 c.args.blade.mask c.requires.1)
+overflow_sub-n c = let s = c.args.sums.now in omega (arith, s.sized, free_lt s.dims (length s.acc.now) s.sized c.args.blade.mask c.requires)
 
-pub add_subsets-requires : goal.add_subsets-requires
-add_subsets-requires c =
-    let d = c.args.dims in
-    let n = length c.args.acc.now in
+pub add_subsets-requires-clause-free_bound : goal.add_subsets-requires-clause-free_bound
+add_subsets-requires-clause-free_bound c =
+    let s = c.args.sums.now in
+    let n = length s.acc.now in
     let b = c.args.blade.mask in
-    let free = free_of d n c.requires.3 b c.requires.1 in
-    record { dims_bound = c.requires; free_bound = (free_add d n c.requires.3 b c.requires.1, free_apart d n c.requires.3 b c.requires.1, and_twice (n - free) free) }
+    let free = free_of s.dims n s.sized b c.requires in
+    (free_add s.dims n s.sized b c.requires, free_apart s.dims n s.sized b c.requires, and_twice (n - free) free)
 
-pub returns-then-free-ne0 : goal.returns-then-free-ne0
-returns-then-free-ne0 c =
+pub returns-then-free-ne0-clause-added : goal.returns-then-free-ne0-clause-added
+returns-then-free-ne0-clause-added c =
     let a = c.args in
+    let s = a.sums.now in
     let b = a.blade.mask in
-    let n = length a.acc.now in
-    let free = free_of a.dims n c.requires.3 b c.requires.1 in
+    let n = length s.acc.now in
+    let free = free_of s.dims n s.sized b c.requires in
     let from = bit_and (n - free) free in
-    c.add_subsets.ensures
-    ∙ pairs_ext a.blade a.y a.am.now a.dims c.requires.1 a.acc.now c.requires.3 (subset_from b free from) (beyond b)
-    (beyond_test a.dims n c.requires.3 b c.requires.1 c.if-free-ne0.true from refl)
+    c.add_subsets.ensures.added
+    ∙ pairs_ext a.blade a.y s.am.now s.dims c.requires s.acc.now s.sized (subset_from b free from) (beyond b)
+    (beyond_test s.dims n s.sized b c.requires c.if-free-ne0.true from refl)
 
-pub returns-else-free-ne0 : goal.returns-else-free-ne0
-returns-else-free-ne0 c =
+pub returns-else-free-ne0-clause-added : goal.returns-else-free-ne0-clause-added
+returns-else-free-ne0-clause-added c =
     let a = c.args in
+    let s = a.sums.now in
     let b = a.blade.mask in
-    sym (pairs_none a.blade a.y a.am.now a.dims c.requires.1 a.acc.now c.requires.3 (beyond b)
-    (beyond_none a.dims (length a.acc.now) c.requires.3 b c.requires.1 c.if-free-ne0.false))
+    sym (pairs_none a.blade a.y s.am.now s.dims c.requires s.acc.now s.sized (beyond b)
+    (beyond_none s.dims (length s.acc.now) s.sized b c.requires c.if-free-ne0.false))

@@ -1,4 +1,4 @@
-use mathlib.Core.Path.{◌≡◌, refl, sym, ◌∙◌, ap}
+use mathlib.Core.Path.{◌≡◌, refl, sym, ◌∙◌, ap, ap₂}
 use mathlib.Core.Bool.{Bool, true, false, ◌&&◌, ◌||◌, and-true}
 use mathlib.Core.List.{List}
 use Prim.Native.Nat.{ℕ, ◌+◌, ◌-◌, ◌^◌, ◌<◌}
@@ -8,6 +8,7 @@ use lib.Dec.{eqb}
 use lib.Ieee.{Float}
 use lib.ListN.{length}
 use borrow.Author.Tests.{eq-eqb}
+use Rattle.std.proofs.Common.{Bor}
 use Rattle.clifford.specs.Pairs.{within}
 use Rattle.masks.proofs.OrderLaws.{blades_le}
 use Rattle.product.specs.declared.mode.Mode.{Mode}
@@ -22,10 +23,10 @@ use Rattle.product.proofs.sums.add_blade.Goals as goal
 -- ---- what the function is given
 module _ (s : Start) where
   abbrev d : ℕ
-  d = s.args.dims
+  d = s.args.sums.now.dims
 
   abbrev n : ℕ
-  n = length s.args.acc.now
+  n = length s.args.sums.now.acc.now
 
   abbrev b : ℕ
   b = s.args.blade.mask
@@ -34,10 +35,10 @@ module _ (s : Start) where
   null = s.args.blade.null
 
   size : n ≡ 2 ^ d
-  size = s.requires.dims_bound.3
+  size = s.args.sums.now.sized
 
   b_lt : b < 2 ^ d
-  b_lt = s.requires.dims_bound.1
+  b_lt = s.requires.mask_bound
 
   inside : bit_and b null ≡ null
   inside = s.requires.null_value
@@ -47,13 +48,13 @@ module _ (s : Start) where
 
   -- The sums as they are given, with the pairs that pass a test.
   abbrev pairs : (ℕ → Bool) → List Float
-  pairs t = with_pairs t s.args.blade s.args.y s.args.am.now s.args.acc.now
+  pairs t = with_pairs t s.args.blade s.args.y s.args.sums.now.am.now s.args.sums.now.acc.now
 
   -- The masks that pass the test are those that meet the blade.
   by_mode : (mode : Mode) (t : ℕ → Bool) (w : List Float) → s.args.mode ≡ mode → ((m : ℕ) → m < 2 ^ d → t m ≡ meets mode s.args.blade m)
       → w ≡ pairs t → w ≡ pairs (meets s.args.mode s.args.blade)
   by_mode mode t w p h e =
-      e ∙ pairs_ext s.args.blade s.args.y s.args.am.now d b_lt s.args.acc.now size t (meets mode s.args.blade) h
+      e ∙ pairs_ext s.args.blade s.args.y s.args.sums.now.am.now d b_lt s.args.sums.now.acc.now size t (meets mode s.args.blade) h
       ∙ ap (λ (v : Mode). pairs (meets v s.args.blade)) (sym p)
 
   -- With no null vector each mask is free of them.
@@ -75,96 +76,96 @@ module _ (s : Start) where
   right_asked = (free_add d n size b b_lt, free_apart d n size b b_lt, and_zero_l (bit_xor (n - 1) b))
 
 pub overflow_cast-full : goal.overflow_cast-full
-overflow_cast-full c = omega (arith, blades_le c.args.dims c.requires.dims_bound.0)
+overflow_cast-full c = let s = c.args.sums.now in omega (arith, s.sized, blades_le s.dims s.few)
 
-pub add_subsets-requires : goal.add_subsets-requires
-add_subsets-requires c = record { dims_bound = c.requires.dims_bound; free_bound = all_asked (goal.at.add_subsets-requires c).Start }
+pub add_subsets-requires-clause-free_bound : goal.add_subsets-requires-clause-free_bound
+add_subsets-requires-clause-free_bound c = all_asked (goal.at.add_subsets-requires-clause-free_bound c).Start
 
 -- Either base may be asked of.
-pub add_subsets-requires-in-Left : goal.add_subsets-requires-in-Left
-add_subsets-requires-in-Left c =
-    let s = (goal.at.add_subsets-requires-in-Left c).Start in
-    record { dims_bound = c.requires.dims_bound; free_bound = assumption (left_asked s, right_asked s) }
+pub add_subsets-requires-in-Left-clause-free_bound : goal.add_subsets-requires-in-Left-clause-free_bound
+add_subsets-requires-in-Left-clause-free_bound c =
+    let s = (goal.at.add_subsets-requires-in-Left-clause-free_bound c).Start in
+    assumption (left_asked s, right_asked s)
 
-pub add_subsets-requires-then-null-eq0-2 : goal.add_subsets-requires-then-null-eq0-2
-add_subsets-requires-then-null-eq0-2 c =
-    record { dims_bound = c.requires.dims_bound; free_bound = right_asked (goal.at.add_subsets-requires-then-null-eq0-2 c).Start }
+pub add_subsets-requires-then-null-eq0-2-clause-free_bound : goal.add_subsets-requires-then-null-eq0-2-clause-free_bound
+add_subsets-requires-then-null-eq0-2-clause-free_bound c = right_asked (goal.at.add_subsets-requires-then-null-eq0-2-clause-free_bound c).Start
 
-pub add_subsets-requires-in-Inner : goal.add_subsets-requires-in-Inner
-add_subsets-requires-in-Inner c = record { dims_bound = c.requires.dims_bound; free_bound = left_asked (goal.at.add_subsets-requires-in-Inner c).Start }
+pub add_subsets-requires-in-Inner-clause-free_bound : goal.add_subsets-requires-in-Inner-clause-free_bound
+add_subsets-requires-in-Inner-clause-free_bound c = left_asked (goal.at.add_subsets-requires-in-Inner-clause-free_bound c).Start
 
-pub add_subsets-requires-in-Outer : goal.add_subsets-requires-in-Outer
-add_subsets-requires-in-Outer c = record { dims_bound = c.requires.dims_bound; free_bound = all_asked (goal.at.add_subsets-requires-in-Outer c).Start }
+pub add_subsets-requires-in-Outer-clause-free_bound : goal.add_subsets-requires-in-Outer-clause-free_bound
+add_subsets-requires-in-Outer-clause-free_bound c = all_asked (goal.at.add_subsets-requires-in-Outer-clause-free_bound c).Start
 
 -- All, no null vector.
-pub returns-then-null-eq0 : goal.returns-then-null-eq0
+pub returns-then-null-eq0-clause-added : goal.returns-then-null-eq0-clause-added
 unfolding takes
-returns-then-null-eq0 c =
-    let s = (goal.at.returns-then-null-eq0 c).Start in
-    by_mode s All (λ m. true) _ c.in-All.is (λ m h. sym (none_null s c.if-null-eq0.true m)) c.add_all.ensures
+returns-then-null-eq0-clause-added c =
+    let s = (goal.at.returns-then-null-eq0-clause-added c).Start in
+    by_mode s All (λ m. true) _ c.in-All.is (λ m h. sym (none_null s c.if-null-eq0.true m)) c.add_all.ensures.added
 
 -- All.
-pub returns-else-null-eq0 : goal.returns-else-null-eq0
+pub returns-else-null-eq0-clause-added : goal.returns-else-null-eq0-clause-added
 unfolding takes
-returns-else-null-eq0 c =
-    let s = (goal.at.returns-else-null-eq0 c).Start in
+returns-else-null-eq0-clause-added c =
+    let s = (goal.at.returns-else-null-eq0-clause-added c).Start in
     by_mode s All (subset_from 0 (bit_xor (n s - 1) (null s)) 0) _ c.in-All.is (all_test (d s) (n s) (size s) (null s) (null_lt s))
-    c.add_subsets.ensures
+    c.add_subsets.ensures.added
 
 -- Left.
-pub returns-in-Left : goal.returns-in-Left
+pub returns-in-Left-clause-added : goal.returns-in-Left-clause-added
 unfolding takes
-returns-in-Left c =
-    let s = (goal.at.returns-in-Left c).Start in
+returns-in-Left-clause-added c =
+    let s = (goal.at.returns-in-Left-clause-added c).Start in
     by_mode s Left (subset_from 0 (bit_xor (b s) (null s)) 0) _ c.in-Left.is (λ m h. left_test (d s) (b s) (null s) (b_lt s) (inside s) m)
-    c.add_subsets-in-Left.ensures
+    c.add_subsets-in-Left.ensures.added
 
 -- Right, no null vector.
-pub returns-then-null-eq0-2 : goal.returns-then-null-eq0-2
+pub returns-then-null-eq0-2-clause-added : goal.returns-then-null-eq0-2-clause-added
 unfolding takes
-returns-then-null-eq0-2 c =
-    let s = (goal.at.returns-then-null-eq0-2 c).Start in
+returns-then-null-eq0-2-clause-added c =
+    let s = (goal.at.returns-then-null-eq0-2-clause-added c).Start in
     by_mode s Right (subset_from (b s) (bit_xor (n s - 1) (b s)) 0) _ c.in-Right.is
     (λ m h.
     right_test (d s) (n s) (size s) (b s) (b_lt s) m h
     ∙ sym (ap (λ x. within (b s) m && x) (none_null s c.if-null-eq0-2.true m) ∙ and-true (within (b s) m)))
-    c.add_subsets-then-null-eq0-2.ensures
+    c.add_subsets-then-null-eq0-2.ensures.added
 
 -- Right: no mask has all of b and is free of null vectors.
-pub returns-else-null-eq0-2 : goal.returns-else-null-eq0-2
+pub returns-else-null-eq0-2-clause-added : goal.returns-else-null-eq0-2-clause-added
 unfolding takes
-returns-else-null-eq0-2 c =
-    let s = (goal.at.returns-else-null-eq0-2 c).Start in
+returns-else-null-eq0-2-clause-added c =
+    let s = (goal.at.returns-else-null-eq0-2-clause-added c).Start in
     let a = c.args in
-    by_mode s Right (λ m. false) a.acc.now c.in-Right.is (λ m h. sym (right_none (d s) (b s) (null s) (b_lt s) (inside s) m c.if-null-eq0-2.false))
-    (sym (pairs_none a.blade a.y a.am.now (d s) (b_lt s) a.acc.now (size s) (λ m. false) (λ m h. refl)))
+    by_mode s Right (λ m. false) a.sums.now.acc.now c.in-Right.is (λ m h. sym (right_none (d s) (b s) (null s) (b_lt s) (inside s) m c.if-null-eq0-2.false))
+    (sym (pairs_none a.blade a.y a.sums.now.am.now (d s) (b_lt s) a.sums.now.acc.now (size s) (λ m. false) (λ m h. refl)))
 
 -- Inner, no null vector.
-pub returns-then-null-eq0-3 : goal.returns-then-null-eq0-3
+pub returns-then-null-eq0-3-clause-added : goal.returns-then-null-eq0-3-clause-added
 unfolding takes
-returns-then-null-eq0-3 c =
-    let s = (goal.at.returns-then-null-eq0-3 c).Start in
+returns-then-null-eq0-3-clause-added c =
+    let s = (goal.at.returns-then-null-eq0-3-clause-added c).Start in
     let a = c.args in
     let t = subset_from 0 (bit_xor (b s) (null s)) 0 in
     by_mode s Inner (λ m. t m || beyond (b s) m) _ c.in-Inner.is
     (λ m h. inner_both (d s) (b s) (null s) (b_lt s) (inside s) m c.if-null-eq0-3.true)
-    (c.add_beyond.ensures
-    ∙ ap (with_pairs (beyond (b s)) a.blade a.y a.am.now) c.add_subsets-in-Inner.ensures
-    ∙ pairs_both a.blade a.y a.am.now (d s) (b_lt s) a.acc.now (size s) t (beyond (b s))
+    (c.add_beyond.ensures.added
+    ∙ ap₂ (λ (u v : List Float). with_pairs (beyond (b s)) a.blade a.y u v) (ap (λ (u : Bor (List Float)). u.now) c.add_subsets-in-Inner.ensures.kept.1)
+    c.add_subsets-in-Inner.ensures.added
+    ∙ pairs_both a.blade a.y a.sums.now.am.now (d s) (b_lt s) a.sums.now.acc.now (size s) t (beyond (b s))
     (λ m h. inner_apart (d s) (b s) (null s) (b_lt s) (inside s) m))
 
 -- Inner.
-pub returns-else-null-eq0-3 : goal.returns-else-null-eq0-3
+pub returns-else-null-eq0-3-clause-added : goal.returns-else-null-eq0-3-clause-added
 unfolding takes
-returns-else-null-eq0-3 c =
-    let s = (goal.at.returns-else-null-eq0-3 c).Start in
+returns-else-null-eq0-3-clause-added c =
+    let s = (goal.at.returns-else-null-eq0-3-clause-added c).Start in
     by_mode s Inner (subset_from 0 (bit_xor (b s) (null s)) 0) _ c.in-Inner.is
-    (λ m h. inner_null (d s) (b s) (null s) (b_lt s) (inside s) m c.if-null-eq0-3.false) c.add_subsets-in-Inner.ensures
+    (λ m h. inner_null (d s) (b s) (null s) (b_lt s) (inside s) m c.if-null-eq0-3.false) c.add_subsets-in-Inner.ensures.added
 
 -- Outer.
-pub returns-in-Outer : goal.returns-in-Outer
+pub returns-in-Outer-clause-added : goal.returns-in-Outer-clause-added
 unfolding takes
-returns-in-Outer c =
-    let s = (goal.at.returns-in-Outer c).Start in
+returns-in-Outer-clause-added c =
+    let s = (goal.at.returns-in-Outer-clause-added c).Start in
     by_mode s Outer (subset_from 0 (bit_xor (n s - 1) (null s)) 0) _ c.in-Outer.is (all_test (d s) (n s) (size s) (null s) (null_lt s))
-    c.add_subsets-in-Outer.ensures
+    c.add_subsets-in-Outer.ensures.added

@@ -1,18 +1,16 @@
-use mathlib.Core.Path.{ap}
-use Prim.Native.Nat.{ℕ}
-use native.Mathlib.Nat.{lt_of_le_of_lt}
-use lib.Bits.{bit_xor, and_le_l}
-use lib.Ieee.{nan, binary64, add, mul}
-use lib.ListN.{get_or, set}
+use Prim.Native.Nat.{◌<◌}
+use native.Mathlib.Omega.{arith}
+use lib.Bits.{bit_xor, xor_lt}
+use lib.ListN.{length}
+use Rattle.product.proofs.sums.add_pair.Goals.{Start}
 use Rattle.product.proofs.sums.add_pair.Goals as goal
 
-pub odd_ones-sign-requires : goal.odd_ones-sign-requires
-odd_ones-sign-requires c = (c.requires.0, lt_of_le_of_lt (and_le_l c.args.m c.args.blade.flips) c.requires.1)
+-- The sum's mask is one of the masks.
+low : (c : Start) → bit_xor c.args.m c.args.blade.mask < length c.args.sums.now.acc.now
+low c = let s = c.args.sums.now in omega (arith, s.sized, xor_lt s.dims c.args.m c.args.blade.mask c.requires.0 c.requires.1)
 
-pub returns : goal.returns
-returns c =
-    let a = c.args in
-    let at = bit_xor a.m a.blade.mask in
-    ap
-    (λ (k : ℕ). set a.acc.now at (add binary64 (get_or a.acc.now at nan) (mul binary64 (get_or a.am.now a.m nan) (get_or a.ys.now k nan))))
-    c.odd_ones-sign.ensures
+pub bounds-sums-c : goal.bounds-sums-c
+bounds-sums-c c = low (goal.at.bounds-sums-c c).Start
+
+pub bounds-sums-c-2 : goal.bounds-sums-c-2
+bounds-sums-c-2 c = low (goal.at.bounds-sums-c-2 c).Start

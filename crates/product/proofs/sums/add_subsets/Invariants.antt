@@ -11,7 +11,15 @@ abbrev before : ℕ → ℕ → ℕ → ℕ → ℕ → Bool
 before base free from s m = subset_from base free from m && ltb (bit_and m free) s
 
 abbrev pub invariant-loop-s : goal.invariant-loop-s
-invariant-loop-s l = (bit_and l.s l.free ≡ l.s) × (l.from ≤ l.s) × (l.acc ≡ with_pairs (before l.base l.free l.from l.s) l.blade l.y l.am l.initial.acc)
+invariant-loop-s l =
+    let s = l.initial.sums in
+    record {
+      subset : bit_and l.s l.free ≡ l.s;
+      later : l.from ≤ l.s;
+      same_reference : l.sums.acc.ghost_name ≡ s.acc.ghost_name;
+      kept : (l.sums.dims ≡ s.dims) × (l.sums.am ≡ s.am);
+      added : l.sums.acc.now ≡ with_pairs (before l.base l.free l.from l.s) l.blade l.y s.am.now s.acc.now;
+    }
 
 abbrev pub decreases-loop-s : goal.decreases-loop-s
 decreases-loop-s l = l.free - l.s

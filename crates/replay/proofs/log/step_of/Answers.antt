@@ -1,12 +1,12 @@
 use mathlib.Core.Path.{◌≡◌, refl}
 use Prim.Native.Nat.{ℕ, zero, suc}
 use native.Mathlib.Omega.{arith}
-use Rattle.replay.specs.declared.log.Step.TheVariants.{Unknown}
+use Rattle.std.specs.Prelude.{None}
 use Rattle.replay.specs.Log.{step_of}
 use Rattle.replay.proofs.log.step_of.Goals as goal
 
 -- a kind that is none of the five
-any_other : (kind k : ℕ) → (kind ≡ 0 → ⊥) → (kind ≡ 1 → ⊥) → (kind ≡ 2 → ⊥) → (kind ≡ 3 → ⊥) → (kind ≡ 4 → ⊥) → Unknown ≡ step_of kind k
+any_other : (kind k : ℕ) → (kind ≡ 0 → ⊥) → (kind ≡ 1 → ⊥) → (kind ≡ 2 → ⊥) → (kind ≡ 3 → ⊥) → (kind ≡ 4 → ⊥) → None ≡ step_of kind k
 unfolding step_of
 any_other zero k a b d e f = absurd (a refl)
 any_other (suc zero) k a b d e f = absurd (b refl)

@@ -1,5 +1,4 @@
 use mathlib.Core.Path.{◌≡◌}
-use Prim.Native.Nat.{◌-◌, ◌/◌}
 use lib.ListN.{length}
 use Rattle.sheets.specs.Read.{said}
 use Rattle.replay.specs.Log.{steps_of}
@@ -7,7 +6,4 @@ use Rattle.replay.proofs.RunLaws.{Posed}
 use Rattle.replay.proofs.replay.run.Given as goal
 
 abbrev pub invariant-loop-steps : goal.invariant-loop-steps
-invariant-loop-steps l = Posed (said l.sheet) (steps_of l.log) l.turned l.shape l.x l.y l.steps × (length l.held ≡ 512) × (l.out ≡ l.initial.out)
-
-abbrev pub decreases-loop-steps : goal.decreases-loop-steps
-decreases-loop-steps l = length l.log / 2 - l.steps
+invariant-loop-steps l = Posed (said l.sheet) (steps_of l.fn.log) l.turned l.shape l.x l.y l.steps × (length l.held ≡ 512) × (l.out ≡ l.initial.out)

@@ -6,10 +6,6 @@ pub returns-in-Vanilla : goal.returns-in-Vanilla
 unfolding metric_of metric_value
 returns-in-Vanilla c = rw c.in-Vanilla.is
 
-pub returns-in-Projective : goal.returns-in-Projective
-unfolding metric_of
-returns-in-Projective c = c.metric_projective.ensures ∙ (rw c.in-Projective.is)
-
 pub returns-in-Cl : goal.returns-in-Cl
 unfolding metric_of
 returns-in-Cl c = c.metric_cl.ensures ∙ (rw c.in-Cl.is)

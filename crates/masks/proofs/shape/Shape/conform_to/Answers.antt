@@ -1,65 +1,63 @@
-use mathlib.Core.Path.{◌≡◌, sym, ap, ap₂, ◌∙◌}
+use mathlib.Core.Path.{◌≡◌, refl, sym, ap, ap₂, ◌∙◌}
 use Prim.Native.Nat.{ℕ, ◌+◌, ◌^◌, ◌≤◌, max}
 use native.Mathlib.Omega.{arith}
 use lib.ListN.{length}
+use Rattle.std.proofs.lemmas.Result.{err_from_is_err_and}
 use Rattle.masks.specs.Outcome.{refusal, laid, result_tests}
 use Rattle.masks.specs.Shape.{promotes, conformed, conformed_shape, conform_to}
 use Rattle.masks.proofs.ShapeLaws.{promotes_le, promoted_small}
 use Rattle.masks.proofs.OrderLaws.{none_counted}
-use Rattle.masks.proofs.OutcomeLaws.{Taken, taken, gives_refused, gives_done, checked, result_tests_same}
-use Rattle.masks.proofs.shape.Shape.conform_to.Goals.{After-promotion-up, After-refusal_of-no}
+use Rattle.masks.proofs.OutcomeLaws.{Taken, taken, needed_same, gives_refused, gives_done, result_tests_same}
+use Rattle.masks.proofs.shape.Shape.conform_to.Goals.{After-refusal_of}
 use Rattle.masks.proofs.shape.Shape.conform_to.Goals as goal
 
-few : (c : After-promotion-up) → c.promotion-up.result ≤ 1
-few c =
-    let s = c.args in
-    omega (arith, c.promotion-up.ensures, promotes_le s.self.flavor s.other.flavor)
+-- The definition's number is the code's.
+module _ (c : After-refusal_of) where
+  few : c.promotion-up.result ≤ 1
+  few = omega (arith, c.promotion-up.ensures, promotes_le c.args.self.flavor c.args.other.flavor)
 
--- The code's number is the definition's.
-module _ (c : After-refusal_of-no) where
   abbrev own : ℕ
   own = c.args.self.dims
 
   abbrev dims : ℕ
   dims = max (own + promotes c.args.self.flavor c.args.other.flavor) c.args.other.dims
 
-  grown : own ≤ 9 → c.promoted_dims.result ≡ own + c.promotion-up.result
-  grown = promoted_small own _ _ c.promoted_dims.ensures
+  grown : own ≤ 9 → c.saturating_add.result ≡ own + c.promotion-up.result
+  grown = promoted_small own _ _ c.saturating_add.ensures few
 
-  same : own ≤ 9 → c.larger-n.result ≡ dims
-  same h = c.larger-n.ensures ∙ ap (λ n. max n c.args.other.dims) (grown h ∙ ap (λ u. own + u) c.promotion-up.ensures)
+  same : own ≤ 9 → c.max-n.result ≡ dims
+  same h = c.max-n.ensures ∙ ap (λ n. max n c.args.other.dims) (grown h ∙ ap (λ u. own + u) c.promotion-up.ensures)
 
-  number : c.refusal_of-no.result ≡ refusal (result_tests own c.larger-n.result (length c.args.a.now) (length c.args.out.now) (2 ^ c.larger-n.result))
-  number =
-      checked _ own c.larger-n.result (length c.args.a.now) (length c.args.out.now) _ c.refusal_of-no.ensures (none_counted c.blades_or_none.ensures)
+  sized : refusal (result_tests own c.max-n.result (length c.args.a.now) (length c.args.out.now) c.blades_or_none.result) ≡ refusal (result_tests own c.max-n.result (length c.args.a.now) (length c.args.out.now) (2 ^ c.max-n.result))
+  sized = needed_same own c.max-n.result (length c.args.a.now) (length c.args.out.now) _ _ (none_counted c.blades_or_none.ensures)
 
-  numbered : c.refusal_of-no.result ≡ refusal (result_tests own dims (length c.args.a.now) (length c.args.out.now) (2 ^ dims))
-  numbered = number ∙ result_tests_same own c.larger-n.result dims (length c.args.a.now) (length c.args.out.now) same
+  number : refusal (result_tests own dims (length c.args.a.now) (length c.args.out.now) (2 ^ dims)) ≡ refusal (result_tests own c.max-n.result (length c.args.a.now) (length c.args.out.now) c.blades_or_none.result)
+  number = sym (sized ∙ result_tests_same own c.max-n.result dims (length c.args.a.now) (length c.args.out.now) same)
 
   -- The call is not refused.
-  ok : c.refusal_of-no.result ≡ 0 → Taken own c.larger-n.result (length c.args.a.now) (length c.args.out.now) (2 ^ c.larger-n.result)
-  ok z = taken own c.larger-n.result (length c.args.a.now) (length c.args.out.now) _ (sym number ∙ z)
+  ok : refusal (result_tests own c.max-n.result (length c.args.a.now) (length c.args.out.now) c.blades_or_none.result) ≡ 0 → Taken own c.max-n.result (length c.args.a.now) (length c.args.out.now) (2 ^ c.max-n.result)
+  ok z = taken own c.max-n.result (length c.args.a.now) (length c.args.out.now) _ (sym sized ∙ z)
 
-pub promoted_dims-requires : goal.promoted_dims-requires
-promoted_dims-requires c = few c
-
-pub returns-then-no-ne-DONE : goal.returns-then-no-ne-DONE
+pub returns-in_err-refusal_of : goal.returns-in_err-refusal_of
 unfolding conform_to
-returns-then-no-ne-DONE c = gives_refused _ _ _ _ _ (numbered (goal.at.returns-then-no-ne-DONE c).After-refusal_of-no) c.if-no-ne-DONE.true c.refused.ensures
+returns-in_err-refusal_of c =
+    let p = err_from_is_err_and c.from_residual.result c.from_residual.ensures.1 in
+    let f = c.in_err-refusal_of in
+    rw (p.1, p.2) (gives_refused _ f.field-0.0 _ _ (number (goal.at.returns-in_err-refusal_of c).After-refusal_of ∙ f.ensures))
 
-pub conform_one-requires : goal.conform_one-requires
-conform_one-requires c =
-    let t = ok (goal.at.conform_one-requires c).After-refusal_of-no c.if-no-ne-DONE.false in
-    record { up_bound = (few (goal.at.conform_one-requires c).After-promotion-up, omega (arith, t.result, c.larger-n.ensures, grown (goal.at.conform_one-requires c).After-refusal_of-no t.small), t.result, t.counted, t.roomy); up_value = λ e. omega (arith, e, c.larger-n.ensures, grown (goal.at.conform_one-requires c).After-refusal_of-no t.small) }
+pub conform_by-requires : goal.conform_by-requires
+conform_by-requires c =
+    let r = (goal.at.conform_by-requires c).After-refusal_of in
+    let t = ok r c.in_ok-refusal_of.ensures.0 in
+    (few r, omega (arith, t.result, c.max-n.ensures, grown r t.small), t.result, t.counted, t.roomy)
 
 pub returns : goal.returns
 unfolding conform_to
 returns c =
     let a = c.args in
+    let r = (goal.at.returns c).After-refusal_of in
+    let z = c.in_ok-refusal_of.ensures.0 in
     let e = c.promotion-up.ensures in
-    let n = same (goal.at.returns c).After-refusal_of-no (ok (goal.at.returns c).After-refusal_of-no c.if-no-ne-DONE.false).small in
-    gives_done _ _ _ _ _ _ (numbered (goal.at.returns c).After-refusal_of-no) c.if-no-ne-DONE.false
-    (c.done.ensures
-    ∙ ap (λ x. record { number = 0; shape = x }) (c.conformed.ensures ∙ ap₂ (λ u n. conformed_shape u a.self n) e n))
-    (c.conform_one.ensures
-    ∙ ap₂ (λ u n. laid (conformed u a.self.dims n a.a.now) a.out.now) e n)
+    let n = same r (ok r z).small in
+    gives_done _ _ _ _ _ (number r ∙ z) refl (c.conformed.ensures ∙ ap₂ (λ u n. conformed_shape u a.self n) e n)
+    (c.conform_by.ensures ∙ ap₂ (λ u n. laid (conformed u a.self.dims n a.a.now) a.out.now) e n)

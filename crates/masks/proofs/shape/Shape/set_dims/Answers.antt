@@ -2,32 +2,36 @@ use mathlib.Core.Path.{◌≡◌, refl, sym, ap, ◌∙◌}
 use Prim.Native.Nat.{◌^◌}
 use native.Mathlib.Omega.{arith}
 use lib.ListN.{length}
+use Rattle.std.proofs.lemmas.Result.{err_from_is_err_and}
 use Rattle.masks.specs.Outcome.{refusal, laid, result_tests}
 use Rattle.masks.specs.Shape.{set_dims}
 use Rattle.masks.proofs.ShapeLaws.{conformed_none}
 use Rattle.masks.proofs.OrderLaws.{none_counted}
-use Rattle.masks.proofs.OutcomeLaws.{Taken, taken, gives_refused, gives_done, checked}
-use Rattle.masks.proofs.shape.Shape.set_dims.Goals.{After-refusal_of-no}
+use Rattle.masks.proofs.OutcomeLaws.{taken, needed_same, gives_refused, gives_done}
+use Rattle.masks.proofs.shape.Shape.set_dims.Goals.{After-refusal_of}
 use Rattle.masks.proofs.shape.Shape.set_dims.Goals as goal
 
--- the code's number is the definition's
-module _ (c : After-refusal_of-no) where
-  number : c.refusal_of-no.result ≡ refusal (result_tests c.args.self.dims c.args.new_dims (length c.args.a.now) (length c.args.out.now) (2 ^ c.args.new_dims))
-  number = checked _ c.args.self.dims c.args.new_dims (length c.args.a.now) (length c.args.out.now) _ c.refusal_of-no.ensures (none_counted c.blades_or_none.ensures)
+-- the definition's number is the code's
+module _ (c : After-refusal_of) where
+  number : let a = c.args in refusal (result_tests a.self.dims a.new_dims (length a.a.now) (length a.out.now) (2 ^ a.new_dims)) ≡ refusal (result_tests a.self.dims a.new_dims (length a.a.now) (length a.out.now) c.blades_or_none.result)
+  number = let a = c.args in sym (needed_same a.self.dims a.new_dims (length a.a.now) (length a.out.now) _ _ (none_counted c.blades_or_none.ensures))
 
-pub returns-then-no-ne-DONE : goal.returns-then-no-ne-DONE
+pub returns-in_err-refusal_of : goal.returns-in_err-refusal_of
 unfolding set_dims
-returns-then-no-ne-DONE c = gives_refused _ _ _ _ _ (number (goal.at.returns-then-no-ne-DONE c).After-refusal_of-no) c.if-no-ne-DONE.true c.refused.ensures
+returns-in_err-refusal_of c =
+    let p = err_from_is_err_and c.from_residual.result c.from_residual.ensures.1 in
+    let f = c.in_err-refusal_of in
+    rw (p.1, p.2) (gives_refused _ f.field-0.0 _ _ (number (goal.at.returns-in_err-refusal_of c).After-refusal_of ∙ f.ensures))
 
-pub conform_one-requires : goal.conform_one-requires
-conform_one-requires c =
+pub conform_by-requires : goal.conform_by-requires
+conform_by-requires c =
     let a = c.args in
-    let t : Taken a.self.dims a.new_dims (length a.a.now) (length a.out.now) (2 ^ a.new_dims) = taken a.self.dims a.new_dims (length a.a.now) (length a.out.now) _ (sym (number (goal.at.conform_one-requires c).After-refusal_of-no) ∙ c.if-no-ne-DONE.false) in
-    record { up_bound = (omega arith, omega (arith, t.small), t.result, t.counted, t.roomy); up_value = λ e. refl }
+    let t = taken a.self.dims a.new_dims (length a.a.now) (length a.out.now) _ (number (goal.at.conform_by-requires c).After-refusal_of ∙ c.in_ok-refusal_of.ensures.0) in
+    (omega arith, omega (arith, t.small), t.result, t.counted, t.roomy)
 
 pub returns : goal.returns
 unfolding set_dims
 returns c =
     let a = c.args in
-    gives_done _ _ _ _ _ _ (number (goal.at.returns c).After-refusal_of-no) c.if-no-ne-DONE.false (c.done.ensures ∙ rw c.with_dims.ensures) (c.conform_one.ensures
+    gives_done _ _ _ _ _ (number (goal.at.returns c).After-refusal_of ∙ c.in_ok-refusal_of.ensures.0) refl c.with_dims.ensures (c.conform_by.ensures
     ∙ ap (λ xs. laid xs a.out.now) (sym (conformed_none 0 a.self.dims a.new_dims a.a.now refl)))

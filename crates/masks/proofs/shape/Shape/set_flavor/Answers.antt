@@ -2,61 +2,63 @@ use mathlib.Core.Path.{◌≡◌, refl, sym, ap, ap₂, ◌∙◌}
 use Prim.Native.Nat.{ℕ, ◌+◌, ◌^◌, ◌≤◌}
 use native.Mathlib.Omega.{arith}
 use lib.ListN.{length}
+use Rattle.std.proofs.lemmas.Result.{err_from_is_err_and}
 use Rattle.masks.specs.Outcome.{refusal, laid, result_tests}
 use Rattle.masks.specs.Shape.{promotes, conformed, set_flavor}
 use Rattle.masks.proofs.ShapeLaws.{conformed_same, promotes_le, promoted_small}
 use Rattle.masks.proofs.OrderLaws.{none_counted}
-use Rattle.masks.proofs.OutcomeLaws.{Taken, taken, gives_refused, gives_done, checked, result_tests_same}
-use Rattle.masks.proofs.shape.Shape.set_flavor.Goals.{After-promotion-up, After-refusal_of-no}
+use Rattle.masks.proofs.OutcomeLaws.{Taken, taken, needed_same, gives_refused, gives_done, result_tests_same}
+use Rattle.masks.proofs.shape.Shape.set_flavor.Goals.{After-refusal_of}
 use Rattle.masks.proofs.shape.Shape.set_flavor.Goals as goal
 
-few : (c : After-promotion-up) → c.promotion-up.result ≤ 1
-few c =
-    let s = c.args in
-    omega (arith, c.promotion-up.ensures, promotes_le s.self.flavor s.flavor)
+-- The definition's number is the code's.
+module _ (c : After-refusal_of) where
+  few : c.promotion-up.result ≤ 1
+  few = omega (arith, c.promotion-up.ensures, promotes_le c.args.self.flavor c.args.flavor)
 
--- The code's number is the definition's.
-module _ (c : After-refusal_of-no) where
   abbrev own : ℕ
   own = c.args.self.dims
 
   abbrev dims : ℕ
   dims = own + promotes c.args.self.flavor c.args.flavor
 
-  same : own ≤ 9 → c.promoted_dims-n.result ≡ dims
-  same l = promoted_small own _ _ c.promoted_dims-n.ensures l ∙ ap (λ u. own + u) c.promotion-up.ensures
+  same : own ≤ 9 → c.saturating_add-n.result ≡ dims
+  same l = promoted_small own _ _ c.saturating_add-n.ensures few l ∙ ap (λ u. own + u) c.promotion-up.ensures
 
-  numbered : c.refusal_of-no.result ≡ refusal (result_tests own dims (length c.args.a.now) (length c.args.out.now) (2 ^ dims))
-  numbered =
-      checked _ own c.promoted_dims-n.result (length c.args.a.now) (length c.args.out.now) _ c.refusal_of-no.ensures (none_counted c.blades_or_none.ensures)
-      ∙ result_tests_same own c.promoted_dims-n.result dims (length c.args.a.now) (length c.args.out.now) same
+  number : refusal (result_tests own dims (length c.args.a.now) (length c.args.out.now) (2 ^ dims)) ≡ refusal (result_tests own c.saturating_add-n.result (length c.args.a.now) (length c.args.out.now) c.blades_or_none.result)
+  number =
+      sym (needed_same own c.saturating_add-n.result (length c.args.a.now) (length c.args.out.now) _ _ (none_counted c.blades_or_none.ensures)
+      ∙ result_tests_same own c.saturating_add-n.result dims (length c.args.a.now) (length c.args.out.now) same)
 
   -- The call is not refused.
-  ok : c.refusal_of-no.result ≡ 0 → Taken own dims (length c.args.a.now) (length c.args.out.now) (2 ^ dims)
-  ok z = taken own dims (length c.args.a.now) (length c.args.out.now) _ (sym numbered ∙ z)
+  ok : refusal (result_tests own c.saturating_add-n.result (length c.args.a.now) (length c.args.out.now) c.blades_or_none.result) ≡ 0 → Taken own dims (length c.args.a.now) (length c.args.out.now) (2 ^ dims)
+  ok z = taken own dims (length c.args.a.now) (length c.args.out.now) _ (number ∙ z)
 
-pub promoted_dims-n-requires : goal.promoted_dims-n-requires
-promoted_dims-n-requires c = few c
-
-pub returns-then-no-ne-DONE : goal.returns-then-no-ne-DONE
+pub returns-in_err-refusal_of : goal.returns-in_err-refusal_of
 unfolding set_flavor
-returns-then-no-ne-DONE c = gives_refused _ _ _ _ _ (numbered (goal.at.returns-then-no-ne-DONE c).After-refusal_of-no) c.if-no-ne-DONE.true c.refused.ensures
+returns-in_err-refusal_of c =
+    let p = err_from_is_err_and c.from_residual.result c.from_residual.ensures.1 in
+    let f = c.in_err-refusal_of in
+    rw (p.1, p.2) (gives_refused _ f.field-0.0 _ _ (number (goal.at.returns-in_err-refusal_of c).After-refusal_of ∙ f.ensures))
 
-pub conform_one-requires : goal.conform_one-requires
-conform_one-requires c =
-    let t = ok (goal.at.conform_one-requires c).After-refusal_of-no c.if-no-ne-DONE.false in
+pub conform_by-requires : goal.conform_by-requires
+conform_by-requires c =
+    let r = (goal.at.conform_by-requires c).After-refusal_of in
+    let t = ok r c.in_ok-refusal_of.ensures.0 in
     let e = c.promotion-up.ensures in
-    let n = same (goal.at.conform_one-requires c).After-refusal_of-no t.small in
-    record { up_bound = (few (goal.at.conform_one-requires c).After-promotion-up, omega (arith, e, t.result), omega (arith, n, t.result), t.counted, omega (arith, ap (λ k. 2 ^ k) n, t.roomy)); up_value = λ q. omega (arith, q, e, n) }
+    let n = same r t.small in
+    (few r, omega (arith, e, t.result), omega (arith, n, t.result), t.counted, omega (arith, ap (λ k. 2 ^ k) n, t.roomy))
 
 pub returns : goal.returns
 unfolding set_flavor
 returns c =
     let a = c.args in
-    let t = ok (goal.at.returns c).After-refusal_of-no c.if-no-ne-DONE.false in
+    let r = (goal.at.returns c).After-refusal_of in
+    let z = c.in_ok-refusal_of.ensures.0 in
+    let t = ok r z in
     let up = promotes a.self.flavor a.flavor in
-    gives_done _ _ _ _ _ _ (numbered (goal.at.returns c).After-refusal_of-no) c.if-no-ne-DONE.false
-    (c.done.ensures ∙ rw (c.with_flavor.ensures, c.with_dims.ensures, same (goal.at.returns c).After-refusal_of-no t.small))
-    (c.conform_one.ensures
-    ∙ ap₂ (λ u n. laid (conformed u a.self.dims n a.a.now) a.out.now) c.promotion-up.ensures (same (goal.at.returns c).After-refusal_of-no t.small)
-    ∙ ap (λ xs. laid xs a.out.now) (conformed_same up (own (goal.at.returns c).After-refusal_of-no) (dims (goal.at.returns c).After-refusal_of-no) a.a.now (promotes_le _ _) refl t.result t.counted))
+    gives_done _ _ _ _ _ (number r ∙ z) refl
+    (c.with_flavor.ensures ∙ rw (c.with_dims.ensures, same r t.small))
+    (c.conform_by.ensures
+    ∙ ap₂ (λ u n. laid (conformed u a.self.dims n a.a.now) a.out.now) c.promotion-up.ensures (same r t.small)
+    ∙ ap (λ xs. laid xs a.out.now) (conformed_same up (own r) (dims r) a.a.now (promotes_le _ _) refl t.result t.counted))

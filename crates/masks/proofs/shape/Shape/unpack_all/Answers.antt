@@ -1,40 +1,39 @@
-use mathlib.Core.Path.{◌≡◌, sym, ◌∙◌}
-use Prim.Native.Nat.{◌^◌, ◌≤◌}
+use mathlib.Core.Path.{◌≡◌, refl, sym, ◌∙◌}
+use Prim.Native.Nat.{◌^◌}
 use lib.ListN.{length}
-use Rattle.masks.specs.Outcome.{refusal, result_tests}
+use Rattle.std.proofs.lemmas.Result.{err_from_is_err_and}
 use Rattle.masks.specs.Order.{order}
+use Rattle.masks.specs.Outcome.{refusal, result_tests}
 use Rattle.masks.specs.Shape.{coef}
 use Rattle.masks.specs.Unpack.{unpack_all}
 use Rattle.masks.proofs.OrderLaws.{length_order, none_counted}
-use Rattle.masks.proofs.OutcomeLaws.{Taken, taken, writes_refused, writes_done, checked}
+use Rattle.masks.proofs.OutcomeLaws.{taken, needed_same, writes_refused, writes_done}
 use Rattle.masks.proofs.UnpackLaws.{counts}
-use Rattle.masks.proofs.shape.Shape.unpack_all.Goals.{After-refusal_of-no}
+use Rattle.masks.proofs.shape.Shape.unpack_all.Goals.{After-refusal_of}
 use Rattle.masks.proofs.shape.Shape.unpack_all.Goals as goal
 
--- the number that is worked out is the contract's
-module _ (c : After-refusal_of-no) where
-  needed : c.args.d ≤ 9 → c.blades_or_none-needed.result ≡ 2 ^ c.args.d
-  needed h = none_counted c.blades_or_none-needed.ensures h
+-- the definition's number is the one that is worked out
+number : (c : After-refusal_of) → let a = c.args in refusal (result_tests a.self.dims a.d (length a.a.now) (length a.out.now) (2 ^ a.d)) ≡ refusal (result_tests a.self.dims a.d (length a.a.now) (length a.out.now) c.blades_or_none-needed.result)
+number c = let a = c.args in sym (needed_same a.self.dims a.d (length a.a.now) (length a.out.now) _ _ (none_counted c.blades_or_none-needed.ensures))
 
-  refused : c.refusal_of-no.result ≡ refusal (result_tests c.args.self.dims c.args.d (length c.args.a.now) (length c.args.out.now) (2 ^ c.args.d))
-  refused =
-      checked _ c.args.self.dims c.args.d (length c.args.a.now) (length c.args.out.now) _ c.refusal_of-no.ensures (none_counted c.blades_or_none-needed.ensures)
-
-  -- the call is not refused
-  ok : c.refusal_of-no.result ≡ 0 → Taken c.args.self.dims c.args.d (length c.args.a.now) (length c.args.out.now) (2 ^ c.args.d)
-  ok h = taken _ _ _ _ _ (sym refused ∙ h)
-
-pub returns-then-no-ne-DONE : goal.returns-then-no-ne-DONE
+pub returns-in_err-refusal_of : goal.returns-in_err-refusal_of
 unfolding unpack_all
-returns-then-no-ne-DONE c = writes_refused _ _ _ _ _ (refused (goal.at.returns-then-no-ne-DONE c).After-refusal_of-no) c.if-no-ne-DONE.true c.none.ensures
+returns-in_err-refusal_of c =
+    let p = err_from_is_err_and c.from_residual.result c.from_residual.ensures.1 in
+    let f = c.in_err-refusal_of in
+    rw (p.1, p.2) (writes_refused _ f.field-0.0 _ _ (number (goal.at.returns-in_err-refusal_of c).After-refusal_of ∙ f.ensures))
 
 pub read_all-requires : goal.read_all-requires
-read_all-requires c = let t = ok (goal.at.read_all-requires c).After-refusal_of-no c.if-no-ne-DONE.false in (t.small, t.result, t.counted, t.roomy)
+read_all-requires c =
+    let a = c.args in
+    let t = taken a.self.dims a.d (length a.a.now) (length a.out.now) (2 ^ a.d) (number (goal.at.read_all-requires c).After-refusal_of ∙ c.in_ok-refusal_of.ensures.0) in
+    (t.small, t.result, t.counted, t.roomy)
 
 pub returns : goal.returns
 unfolding unpack_all
 returns c =
     let a = c.args in
-    let r = (goal.at.returns c).After-refusal_of-no in
-    let n = needed r (ok r c.if-no-ne-DONE.false).result in
-    writes_done _ _ _ _ _ _ (refused r) c.if-no-ne-DONE.false (counts _ (coef a.self.dims a.a.now) (order a.d) (n ∙ sym (length_order a.d))) c.read_all.ensures
+    let k = number (goal.at.returns c).After-refusal_of ∙ c.in_ok-refusal_of.ensures.0 in
+    let t = taken a.self.dims a.d (length a.a.now) (length a.out.now) (2 ^ a.d) k in
+    let n = none_counted c.blades_or_none-needed.ensures t.result in
+    writes_done _ _ _ _ _ k refl (counts _ (coef a.self.dims a.a.now) (order a.d) (n ∙ sym (length_order a.d))) c.read_all.ensures

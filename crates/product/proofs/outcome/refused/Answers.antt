@@ -1,4 +1,0 @@
-use Rattle.product.proofs.outcome.refused.Goals as goal
-
-pub returns : goal.returns
-returns c = rw c.shape_of-shape.ensures
