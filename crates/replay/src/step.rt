@@ -12,7 +12,7 @@ use masks::order::blades_or_none;
 use masks::outcome::Refusal;
 use masks::shape::Shape;
 
-// A step that was tried: the shape of the pose after it, and whether it is a halting step that fires.
+// A step that was tried: the shape of the pose after it, which a halting step has too, and whether it is one that fires.
 #[derive(Clone, Copy)]
 pub struct Tried {
     pub shape: Shape,
