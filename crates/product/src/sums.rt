@@ -20,12 +20,10 @@ fn odd_ones(dims: u8, f: u32) -> usize
     requires { (dims ≤ 9) × (f < 2 ^ dims) }
     ensures { result ≡ ones f % 2 }
 {
-    let ones = if dims < 9 {
-        (f as u8).count_ones()
-    } else {
-        (f as u16).count_ones()
-    };
-    ones as usize % 2
+    if dims < 9 {
+        return ((f as u8).count_ones() % 2) as usize;
+    }
+    ((f as u16).count_ones() % 2) as usize
 }
 
 // One pair: a's number at the mask m times b's number, or times its negative where an odd number of m's vectors flip the sign. `ys` has both.
