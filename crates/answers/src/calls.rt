@@ -42,16 +42,16 @@ impl TryFrom<u64> for Op {
 
 // What a call takes: words, of which so many are given and the others are 0, two lists of numbers, and two outputs.
 #[derive(Drop)]
-pub struct Call<'a> {
+pub struct Call<'i, 'o> {
     pub words: [u64; 16],
     pub given: usize,
-    pub a: &'a [f64],
-    pub b: &'a [f64],
-    pub out: &'a mut [f64],
-    pub right: &'a mut [f64],
+    pub a: &'i [f64],
+    pub b: &'i [f64],
+    pub out: &'o mut [f64],
+    pub right: &'o mut [f64],
 }
 
-impl<'a> Call<'a> {
+impl<'i, 'o> Call<'i, 'o> {
     // A flavor stands after one word.
     pub fn flavor(&self) -> Flavor {
         let w = self.words;

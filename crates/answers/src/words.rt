@@ -135,7 +135,9 @@ impl<'a> Words<'a> {
     pub fn room<'s, T: Item>(&mut self, space: &'s mut [T]) -> &'s mut [T] {
         let count = at_most(self.next_word(), space.len());
         let out = &mut space[..count];
-        out.fill(T::from_word(T::MARK));
+        for item in out.iter_mut() {
+            *item = T::from_word(T::MARK);
+        }
         out
     }
 
