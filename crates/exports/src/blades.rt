@@ -5,7 +5,7 @@ ghost use Rattle.masks.specs.Blade.{get_blade, set_blade, grade_refusal};
 ghost use Rattle.masks.specs.ShapeBytes.{shape_from};
 ghost use Rattle.exports.specs.Reports.{Reports, ReportsNumber, ReportsValue};
 
-use super::reports::report;
+use super::reports::{DONE, report};
 use masks::order::size_or_none;
 use masks::shape_bytes::{shape_bytes, shape_from};
 use std::convert::identity;
@@ -69,5 +69,5 @@ pub extern "C" fn thresholm_grade(
     }
     *to_start = start_of(dims, grade);
     *to_count = size_or_none(dims, grade);
-    0
+    DONE
 }

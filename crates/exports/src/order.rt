@@ -5,7 +5,7 @@ ghost use Rattle.masks.specs.Order.{blade_count, grade_size};
 ghost use Rattle.exports.specs.Reports.{ReportsCount};
 ghost use Rattle.exports.specs.Order.{ReportsOrderOf};
 
-use super::reports::report;
+use super::reports::{DONE, report};
 use masks::order::{blade_count, blades_or_none, grade_size, order_of};
 use masks::outcome::Refusal;
 use std::convert::identity;
@@ -58,5 +58,5 @@ pub extern "C" fn thresholm_order_of(
     copy_masks(&order.masks, count, masks);
     copy_masks(&order.places, count, places);
     *to_count = count;
-    0
+    DONE
 }

@@ -5,6 +5,9 @@ ghost use Rattle.exports.specs.inner.Answers.{IsReported};
 
 use masks::outcome::Refusal;
 
+// What a call returns that is not refused.
+pub(crate) const DONE: u8 = 0;
+
 // Where one is reported to.
 pub(crate) fn report<A, B: Copy, F: FnOnce(A) -> B>(
     answer: Result<A, Refusal>,
@@ -17,7 +20,7 @@ pub(crate) fn report<A, B: Copy, F: FnOnce(A) -> B>(
     match answer {
         Ok(x) => {
             *to = face(x);
-            0
+            DONE
         }
         Err(refusal) => refusal.number(),
     }
@@ -36,7 +39,7 @@ pub(crate) fn report_two<A, B: Copy, C: Copy, F: FnOnce(A) -> (B, C)>(
     match answer {
         Ok(x) => {
             (*to, *to_other) = face(x);
-            0
+            DONE
         }
         Err(refusal) => refusal.number(),
     }
@@ -56,7 +59,7 @@ pub(crate) fn report_three<A, B: Copy, C: Copy, D: Copy, F: FnOnce(A) -> (B, C, 
     match answer {
         Ok(x) => {
             (*to, *to_other, *to_third) = face(x);
-            0
+            DONE
         }
         Err(refusal) => refusal.number(),
     }

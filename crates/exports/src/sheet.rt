@@ -9,7 +9,7 @@ ghost use Rattle.exports.specs.Reports.{ReportsPlace, ReportsList};
 ghost use Rattle.exports.specs.Sheet.{not_sixes, read_from, write_from, value_from, ReportsSheet};
 
 use super::faces::{place_face, sheet_face};
-use super::reports::{report, report_two};
+use super::reports::{DONE, report, report_two};
 use masks::outcome::{MAX_DIMS, Refusal};
 use sheets::patterns::{numbers_of, patterns_of};
 use sheets::read::{read, shape_count};
@@ -76,7 +76,7 @@ pub extern "C" fn thresholm_read(
     };
     let _ = shapes_to(sheet.shapes, shapes);
     (*to_shapes, *to_count) = sheet_face(sheet);
-    0
+    DONE
 }
 
 // The bytes of a sheet, from the front of the output, and how many there are.
