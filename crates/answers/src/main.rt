@@ -3,8 +3,10 @@
 #![tactic(auto)]
 
 mod calls;
-mod compare;
+mod flavor_calls;
+mod product_calls;
 mod replays;
+mod shape_calls;
 mod shapes;
 mod sheet_calls;
 mod sheet_lines;
@@ -13,79 +15,50 @@ mod words;
 
 ghost use Rattle.std.specs.Prelude.{◌≡◌, ◌≤◌, length, IfOk};
 
+use calls::Op;
+use sheet_calls::Space;
 use std::io::{self, BufReader, Read};
+use words::Words;
 
-// Room for a line. The `ensures` gives only the length, which lending the array as a slice needs.
-fn line_space() -> [u8; 262144]
-    ensures { 262144 ≡ length result }
+// Room for items of one kind. The `ensures` gives only the length, which lending the array as a slice needs.
+fn space<T: Copy, const N: usize>(item: T) -> [T; N]
+    ensures { N ≡ length result }
 {
-    [0; 262144]
+    [item; N]
 }
 
-// Room for the bytes, the patterns and the numbers of a sheet.
-fn byte_space() -> [u8; 40000]
-    ensures { 40000 ≡ length result }
-{
-    [0; 40000]
-}
-
-fn pattern_space() -> [u64; 5000]
-    ensures { 5000 ≡ length result }
-{
-    [0; 5000]
-}
-
-fn number_space() -> [f64; 5000]
-    ensures { 5000 ≡ length result }
-{
-    [0.0; 5000]
-}
-
-// How many calls were read and agree, and the first that does not, counted from 1; 0 while there is none.
+// How many calls were read and agree, and the first that does not, counted from 1.
 #[derive(Clone, Copy)]
 struct Tally {
     read: u64,
     agree: u64,
-    first: u64,
+    first: Option<u64>,
 }
 
-fn counted(t: Tally, agrees: bool) -> Tally {
-    let read = t.read.wrapping_add(1);
-    if agrees {
-        return Tally {
-            read,
-            agree: t.agree.wrapping_add(1),
-            first: t.first,
-        };
+impl Tally {
+    fn count(&mut self, agrees: bool) {
+        self.read = self.read.wrapping_add(1);
+        if agrees {
+            self.agree = self.agree.wrapping_add(1);
+        } else if self.first.is_none() {
+            self.first = Some(self.read);
+        }
     }
-    if t.first == 0 {
-        return Tally {
-            read,
-            agree: t.agree,
-            first: read,
-        };
-    }
-    Tally {
-        read,
-        agree: t.agree,
-        first: t.first,
-    }
-}
-
-// What one line holds: nothing left, or whether its call agrees.
-#[derive(Clone, Copy)]
-enum Line {
-    End,
-    Call(bool),
 }
 
 // Whether the call of a line gives what the line says. The calls of the crates `sheets` and `replay` have lines of their own.
-fn agrees(t: &[u8], bytes: &mut [u8], patterns: &mut [u64], numbers: &mut [f64]) -> bool {
-    let op = words::word_at(t, 0).value;
+fn agrees(text: &[u8], space: &mut Space) -> bool {
+    if text.is_empty() {
+        return false;
+    }
+    let mut line = Words { rest: text };
+    let op = Op::try_from(line.next_word()).ok();
+    let mut words = [0u64; 16];
+    let given = line.read_into(&mut words).len();
     match op {
-        57..=61 => sheet_calls::agrees(t, bytes, patterns, numbers),
-        64 => replays::agrees(t, bytes, numbers),
-        _ => compare::agrees(t),
+        Some(Op::Sheet(op)) => op.agrees(words, &mut line, space),
+        Some(Op::Replay) => replays::agrees(words, &mut line, space),
+        _ => calls::agrees(op, words, given, &mut line),
     }
 }
 
@@ -104,66 +77,56 @@ fn read_full<R: Read>(input: &mut R, buf: &mut [u8]) -> io::Result<usize>
     Ok(at)
 }
 
-// One line: the count of its bytes in six hexadecimal digits and a space, then that many bytes.
+// One line: the count of its bytes in six hexadecimal digits and a space, then that many bytes. Whether its call agrees, if there is one.
 fn read_line<R: Read>(
     input: &mut R,
     body: &mut [u8],
-    bytes: &mut [u8],
-    patterns: &mut [u64],
-    numbers: &mut [f64],
-) -> io::Result<Line> {
+    space: &mut Space,
+) -> io::Result<Option<bool>> {
     let mut head = [0u8; 7];
-    let got = read_full(input, &mut head)?;
-    if got < 7 {
-        return Ok(Line::End);
+    if read_full(input, &mut head)? < 7 {
+        return Ok(None);
     }
-    let n = words::word_at(&head, 0).value as usize;
-    if body.len() < n {
-        return Ok(Line::Call(false));
+    let size = Words { rest: &head }.next_word() as usize;
+    let Some(text) = body.get_mut(..size) else {
+        return Ok(Some(false));
+    };
+    if read_full(input, text)? < size {
+        return Ok(Some(false));
     }
-    let have = read_full(input, &mut body[0..n])?;
-    if have < n {
-        return Ok(Line::Call(false));
-    }
-    Ok(Line::Call(agrees(&body[0..n], bytes, patterns, numbers)))
+    Ok(Some(agrees(text, space)))
 }
 
 // A proved loop has to end, so the lines are counted down from a number that no list has.
 fn run<R: Read>(input: &mut R) -> io::Result<Tally> {
-    let mut space = line_space();
-    let mut byte_room = byte_space();
-    let mut pattern_room = pattern_space();
-    let mut number_room = number_space();
-    let body: &mut [u8] = &mut space;
-    let bytes: &mut [u8] = &mut byte_room;
-    let patterns: &mut [u64] = &mut pattern_room;
-    let numbers: &mut [f64] = &mut number_room;
-    let mut t = Tally {
+    let mut body: [u8; 262144] = space(0);
+    let mut bytes: [u8; 40000] = space(0);
+    let mut patterns: [u64; 5000] = space(0);
+    let mut numbers: [f64; 5000] = space(0.0);
+    let mut room = Space {
+        bytes: &mut bytes,
+        patterns: &mut patterns,
+        numbers: &mut numbers,
+    };
+    let mut tally = Tally {
         read: 0,
         agree: 0,
-        first: 0,
+        first: None,
     };
-    let mut left: u64 = 0xffff_ffff;
-    while 0 < left {
-        match read_line(input, body, bytes, patterns, numbers)? {
-            Line::End => {
-                return Ok(t);
-            }
-            Line::Call(agrees) => {
-                t = counted(t, agrees);
-            }
+    for _ in 0..0xffff_ffff_u64 {
+        match read_line(input, &mut body, &mut room)? {
+            None => return Ok(tally),
+            Some(agrees) => tally.count(agrees),
         }
-        left -= 1;
     }
-    Ok(t)
+    Ok(tally)
 }
 
 fn main(rt: HostRuntime) -> io::Result<()> {
     let mut input = BufReader::new(rt.alloc(), rt.reader())?;
-    let t = run(&mut input)?;
-    let Tally { read, agree, first } = t;
+    let Tally { read, agree, first } = run(&mut input)?;
     println!(rt; "{agree} of {read} calls agree")?;
-    if first != 0 {
+    if let Some(first) = first {
         println!(rt; "the first that does not is call {first}")?;
     }
     Ok(())

@@ -1,121 +1,81 @@
 // Flavors and shapes from words, and what calls answer as words.
+use super::words::{Words, byte};
 use masks::flavor::Flavor;
-use masks::outcome::{Answer, Count};
+use masks::outcome::Refusal;
 use masks::shape::Shape;
 use product::outcome::Product;
 
-pub fn byte(x: u64) -> u8 {
-    (x % 256) as u8
-}
+// The shape of a refused call's words: 0 Vanilla.
+pub const BLANK: Shape = Shape {
+    dims: 0,
+    flavor: Flavor::Vanilla,
+};
 
-pub fn flavor_at(kind: u64, p: u64, n: u64, z: u64) -> Flavor {
-    if kind == 0 {
-        return Flavor::Vanilla;
+// A flavor is kind, p, n, z.
+pub fn flavor_from(words: [u64; 4]) -> Flavor {
+    let [kind, p, n, z] = words;
+    match kind {
+        0 => Flavor::Vanilla,
+        1 => Flavor::Projective,
+        _ => Flavor::Cl(byte(p), byte(n), byte(z)),
     }
-    if kind == 1 {
-        return Flavor::Projective;
-    }
-    Flavor::Cl(byte(p), byte(n), byte(z))
-}
-
-// A flavor is kind, p, n, z, after one word.
-pub fn flavor_in(ins: &[u64; 16]) -> Flavor {
-    flavor_at(ins[1], ins[2], ins[3], ins[4])
 }
 
 // A shape is dims, kind, p, n, z.
-pub fn shape_in(ins: &[u64; 16]) -> Shape {
-    let flavor = flavor_in(ins);
+pub fn shape_from(words: [u64; 5]) -> Shape {
+    let [dims, kind, p, n, z] = words;
     Shape {
-        dims: byte(ins[0]),
-        flavor,
+        dims: byte(dims),
+        flavor: flavor_from([kind, p, n, z]),
     }
 }
 
-pub fn second_shape(ins: &[u64; 16]) -> Shape {
-    let flavor = flavor_at(ins[6], ins[7], ins[8], ins[9]);
-    Shape {
-        dims: byte(ins[5]),
-        flavor,
+pub fn flavor_words(flavor: Flavor) -> [u64; 4] {
+    match flavor {
+        Flavor::Vanilla => [0, 0, 0, 0],
+        Flavor::Projective => [1, 0, 0, 0],
+        Flavor::Cl(p, n, z) => [2, p as u64, n as u64, z as u64],
     }
 }
 
-// A flavor as words.
-#[derive(Clone, Copy)]
-pub struct Words {
-    pub kind: u64,
-    pub p: u64,
-    pub n: u64,
-    pub z: u64,
+pub fn shape_words(shape: Shape) -> [u64; 5] {
+    let [kind, p, n, z] = flavor_words(shape.flavor);
+    [shape.dims as u64, kind, p, n, z]
 }
 
-pub fn words_of(f: Flavor) -> Words {
-    match f {
-        Flavor::Vanilla => Words {
-            kind: 0,
-            p: 0,
-            n: 0,
-            z: 0,
-        },
-        Flavor::Projective => Words {
-            kind: 1,
-            p: 0,
-            n: 0,
-            z: 0,
-        },
-        Flavor::Cl(p, n, z) => Words {
-            kind: 2,
-            p: p as u64,
-            n: n as u64,
-            z: z as u64,
-        },
+// The number of an answer, and its value; where the call is refused, what the line has in its place.
+pub fn parts<T: Copy>(answer: Result<T, Refusal>, blank: T) -> (u64, T) {
+    match answer {
+        Ok(value) => (0, value),
+        Err(refusal) => (refusal.number() as u64, blank),
     }
 }
 
-pub fn put_shape(s: Shape, outs: &mut [u64; 16]) {
-    let f = s.flavor;
-    let w = words_of(f);
-    outs[1] = s.dims as u64;
-    outs[2] = w.kind;
-    outs[3] = w.p;
-    outs[4] = w.n;
-    outs[5] = w.z;
-}
+// Whether the line says what a call answers, count and all.
+impl<'a> Words<'a> {
+    pub fn says_done(&mut self, answer: Result<(), Refusal>) -> bool {
+        let (number, _) = parts(answer, ());
+        self.says(&[number])
+    }
 
-pub fn put_second_shape(s: Shape, outs: &mut [u64; 16]) {
-    let f = s.flavor;
-    let w = words_of(f);
-    outs[6] = s.dims as u64;
-    outs[7] = w.kind;
-    outs[8] = w.p;
-    outs[9] = w.n;
-    outs[10] = w.z;
-}
+    pub fn says_count(&mut self, answer: Result<usize, Refusal>) -> bool {
+        let (number, count) = parts(answer, 0);
+        self.says(&[number, count as u64])
+    }
 
-pub fn put_answer(r: Answer, outs: &mut [u64; 16]) -> usize {
-    outs[0] = r.number as u64;
-    let s = r.shape;
-    put_shape(s, outs);
-    6
-}
+    pub fn says_shape(&mut self, answer: Result<Shape, Refusal>) -> bool {
+        let (number, shape) = parts(answer, BLANK);
+        let [dims, kind, p, n, z] = shape_words(shape);
+        self.says(&[number, dims, kind, p, n, z])
+    }
 
-pub fn put_count(r: Count, outs: &mut [u64; 16]) -> usize {
-    outs[0] = r.number as u64;
-    outs[1] = r.count as u64;
-    2
-}
-
-pub fn put_product(r: Product, outs: &mut [u64; 16]) -> usize {
-    outs[0] = r.number as u64;
-    let s = r.shape;
-    put_shape(s, outs);
-    outs[6] = r.pairs as u64;
-    7
-}
-
-// The first number of an output, where it has one.
-pub fn put_first(x: f64, out: &mut [f64]) {
-    if 0 < out.len() {
-        out[0] = x;
+    pub fn says_product(&mut self, answer: Result<Product, Refusal>) -> bool {
+        let blank = Product {
+            shape: BLANK,
+            pairs: 0,
+        };
+        let (number, product) = parts(answer, blank);
+        let [dims, kind, p, n, z] = shape_words(product.shape);
+        self.says(&[number, dims, kind, p, n, z, product.pairs as u64])
     }
 }

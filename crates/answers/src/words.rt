@@ -1,45 +1,13 @@
-// Hexadecimal words of a line, and numbers from their patterns.
-ghost use Rattle.std.specs.Prelude.{◌≤◌, length};
+// Hexadecimal words of a line, and what they say: numbers by their patterns, patterns and bytes.
+ghost use Rattle.std.specs.Prelude.{◌≤◌};
 
-// A word's value and where the next one begins.
-#[derive(Clone, Copy)]
-pub struct Word {
-    pub value: u64,
-    pub next: usize,
-}
-
-// A hexadecimal digit's value, and 16 for any other byte.
-fn digit(c: u8) -> u64
-    ensures { result ≤ 16 }
-{
-    if c < 48 {
-        return 16;
+// A hexadecimal digit's value.
+fn digit(c: u8) -> Option<u64> {
+    match c {
+        b'0'..=b'9' => Some((c - b'0') as u64),
+        b'a'..=b'f' => Some((c - b'a' + 10) as u64),
+        _ => None,
     }
-    if c < 58 {
-        return (c - 48) as u64;
-    }
-    if c < 97 {
-        return 16;
-    }
-    if c < 103 {
-        return (c - 87) as u64;
-    }
-    16
-}
-
-// The word at a place: its last sixteen digits count, and one byte after it is passed over.
-pub fn word_at(t: &[u8], at: usize) -> Word {
-    let mut value: u64 = 0;
-    let mut i = at;
-    while i < t.len() {
-        let d = digit(t[i]);
-        i += 1;
-        if d == 16 {
-            return Word { value, next: i };
-        }
-        value = value % 0x1000_0000_0000_0000 * 16 + d;
-    }
-    Word { value, next: i }
 }
 
 // A NaN of either sign, as the machine has it.
@@ -49,7 +17,7 @@ fn nan_of(negative: bool) -> f64 {
 }
 
 // The number of a pattern: any NaN's pattern gives a NaN.
-pub fn number_of(bits: u64) -> f64 {
+fn number_of(bits: u64) -> f64 {
     let size = bits % 0x8000_0000_0000_0000;
     if 0x7ff0_0000_0000_0000 < size {
         return nan_of(size < bits);
@@ -58,7 +26,7 @@ pub fn number_of(bits: u64) -> f64 {
 }
 
 // The pattern of a number: one pattern for every NaN.
-pub fn bits_of(x: f64) -> u64 {
+fn bits_of(x: f64) -> u64 {
     if x == x {
         return f64::to_bits(x);
     }
@@ -66,7 +34,7 @@ pub fn bits_of(x: f64) -> u64 {
 }
 
 // The same pattern for every NaN, and any other as it is.
-pub fn one_nan(bits: u64) -> u64 {
+fn one_nan(bits: u64) -> u64 {
     let size = bits % 0x8000_0000_0000_0000;
     if 0x7ff0_0000_0000_0000 < size {
         return 0x7ff8_0000_0000_0000;
@@ -74,45 +42,130 @@ pub fn one_nan(bits: u64) -> u64 {
     bits
 }
 
-// A count and that many numbers, as far as there is room for them; where the next word begins.
-#[derive(Clone, Copy)]
-pub struct Read {
-    pub count: usize,
-    pub next: usize,
+// What stands in an input or an output of a call.
+pub trait Item: Copy {
+    // The word of what an output holds before a call, in every place.
+    const MARK: u64;
+
+    // What a word says.
+    fn from_word(word: u64) -> Self;
+
+    // Whether a word says it.
+    fn is(self, word: u64) -> bool;
 }
 
-pub fn read_numbers(t: &[u8], at: usize, to: &mut [f64]) -> Read
-    ensures { result.count ≤ length to.old }
-{
-    let head = word_at(t, at);
-    let mut next = head.next;
-    let mut i: usize = 0;
-    while i < to.len() {
-        if head.value <= i as u64 {
-            return Read { count: i, next };
-        }
-        let w = word_at(t, next);
-        to[i] = number_of(w.value);
-        next = w.next;
-        i += 1;
+impl Item for f64 {
+    const MARK: u64 = 0x4132_d687_1000_0000;
+
+    fn from_word(word: u64) -> f64 {
+        number_of(word)
     }
-    Read { count: i, next }
+
+    // All NaNs are one.
+    fn is(self, word: u64) -> bool {
+        bits_of(self) == one_nan(word)
+    }
 }
 
-pub fn read_words(t: &[u8], at: usize, to: &mut [u64]) -> Read
-    ensures { result.count ≤ length to.old }
-{
-    let head = word_at(t, at);
-    let mut next = head.next;
-    let mut i: usize = 0;
-    while i < to.len() {
-        if head.value <= i as u64 {
-            return Read { count: i, next };
-        }
-        let w = word_at(t, next);
-        to[i] = w.value;
-        next = w.next;
-        i += 1;
+impl Item for u64 {
+    const MARK: u64 = 0x4132_d687_1000_0000;
+
+    fn from_word(word: u64) -> u64 {
+        word
     }
-    Read { count: i, next }
+
+    fn is(self, word: u64) -> bool {
+        self == word
+    }
+}
+
+pub fn byte(word: u64) -> u8 {
+    (word % 256) as u8
+}
+
+impl Item for u8 {
+    const MARK: u64 = 0xa5;
+
+    fn from_word(word: u64) -> u8 {
+        byte(word)
+    }
+
+    fn is(self, word: u64) -> bool {
+        self as u64 == word
+    }
+}
+
+pub fn at_most(n: u64, most: usize) -> usize
+    ensures { result ≤ most }
+{
+    if n < most as u64 { n as usize } else { most }
+}
+
+// The words of a line that are still to be read.
+#[derive(Drop)]
+pub struct Words<'a> {
+    pub rest: &'a [u8],
+}
+
+impl<'a> Words<'a> {
+    // The next word: its last sixteen digits count, and one byte after it is passed over. At the end of the line it is 0.
+    pub fn next_word(&mut self) -> u64 {
+        let mut value: u64 = 0;
+        while let Some((c, rest)) = self.rest.split_first() {
+            self.rest = rest;
+            match digit(*c) {
+                Some(d) => value = value << 4 | d,
+                None => return value,
+            }
+        }
+        value
+    }
+
+    // A count, and that many items as far as there is room for them: those that were read.
+    pub fn read_into<'s, T: Item>(&mut self, to: &'s mut [T]) -> &'s [T] {
+        let count = at_most(self.next_word(), to.len());
+        let items = &mut to[..count];
+        for item in items.iter_mut() {
+            *item = T::from_word(self.next_word());
+        }
+        items
+    }
+
+    // As much of a space as the next word says, marked in every place.
+    pub fn room<'s, T: Item>(&mut self, space: &'s mut [T]) -> &'s mut [T] {
+        let count = at_most(self.next_word(), space.len());
+        let out = &mut space[..count];
+        out.fill(T::from_word(T::MARK));
+        out
+    }
+
+    // Whether the next words are these.
+    pub fn are_next(&mut self, words: &[u64]) -> bool {
+        for word in words {
+            if self.next_word() != *word {
+                return false;
+            }
+        }
+        true
+    }
+
+    // The same with their count before them.
+    pub fn says(&mut self, words: &[u64]) -> bool {
+        self.next_word() == words.len() as u64 && self.are_next(words)
+    }
+
+    // Whether an output holds the items that the line gives, and past them its marks.
+    pub fn gives<T: Item>(&mut self, out: &[T]) -> bool {
+        let count = self.next_word();
+        if (out.len() as u64) < count {
+            return false;
+        }
+        let (given, kept) = out.split_at(count as usize);
+        for item in given {
+            if !item.is(self.next_word()) {
+                return false;
+            }
+        }
+        kept.iter().all(|item| item.is(T::MARK))
+    }
 }

@@ -7,7 +7,7 @@ use Rattle.masks.specs.Outcome.{refusal, result_tests}
 use Rattle.masks.specs.Shape.{coef}
 use Rattle.masks.specs.Build.{odd_of}
 use Rattle.masks.specs.Unpack.{half_of, half_masks}
-use Rattle.masks.proofs.OutcomeLaws.{taken, needed_same, writes_refused, writes_done}
+use Rattle.masks.proofs.OutcomeLaws.{Taken, taken, needed_same, writes_refused, writes_done}
 use Rattle.masks.proofs.BuildLaws.{odd-le}
 use Rattle.masks.proofs.UnpackLaws.{length_half, counts}
 use Rattle.masks.proofs.unpack.unpack_half.Goals.{After-refusal_of}
