@@ -157,22 +157,18 @@ set_laid n out i x l h =
     ∙ set-append_left (take n out) (drop n out) i x (omega arith)
     ∙ ap (λ (m : ℕ). set (take n out) i x ++ drop m out) (sym (length-set (take n out) i x ∙ e))
 
--- The first n as they are.
-pub same_laid : (n : ℕ) (out : List Float) → n ≤ length out → out ≡ laid (take n out) out
-same_laid n out h = sym (take-append-drop n out) ∙ ap (λ (m : ℕ). take n out ++ drop m out) (sym (length-take-le n out h))
-
--- The first n, each changed as f does, from the front: what is at i is as it was, and changed becomes the next one.
+-- Each number changed as f does, from the front: what is at i is as it was, and changed becomes the next one.
 pub changed_next : (f : Float → Float) (xs ys : List Float) (i : ℕ) → i < length xs → length ys ≡ length xs → ys ≡ map f (take i xs) ++ drop i xs → set ys i (f (get_or ys i nan)) ≡ map f (take (i + 1) xs) ++ drop (i + 1) xs
 changed_next f xs ys i h l e =
     let within : i < length ys = omega (arith, l) in
     map_over_more f xs ys i (get_or ys i nan) h e (get_or_default ys i nan (get_or ys i nan) within)
 
-pub changed_all : (f : Float → Float) (n : ℕ) (out ys : List Float) (i : ℕ) → n ≤ length out → length (take n out) ≤ i → ys ≡ map f (take i (take n out)) ++ drop i (take n out) → ys ++ drop n out ≡ laid (map f (take n out)) out
-changed_all f n out ys i h l e =
-    let xs = take n out in
-    let w : ys ≡ map f xs = e ∙ ap₂ (λ (us vs : List Float). map f us ++ vs) (take_all i xs l) (drop_of_length-le xs l) ∙ append-nil (map f xs) in
-    let k : length (map f xs) ≡ n = length-map xs f ∙ length-take-le n out h in
-    ap₂ (λ (us : List Float) (m : ℕ). us ++ drop m out) w (sym k)
+pub changed_all : (f : Float → Float) (xs ys : List Float) (i : ℕ) → length xs ≤ i → ys ≡ map f (take i xs) ++ drop i xs → ys ≡ map f xs
+changed_all f xs ys i l e = e ∙ ap₂ (λ (us vs : List Float). map f us ++ vs) (take_all i xs l) (drop_of_length-le xs l) ∙ append-nil (map f xs)
+
+-- What is changed is the front of the output.
+pub changed_front : (f : List Float → List Float) (n : ℕ) (out ys : List Float) → n ≤ length out → ((xs : List Float) → length (f xs) ≡ length xs) → ys ≡ f (take n out) → ys ++ drop n out ≡ laid (f (take n out)) out
+changed_front f n out ys h l e = ap₂ (λ (us : List Float) (m : ℕ). us ++ drop m out) e (sym (l (take n out) ∙ length-take-le n out h))
 
 -- ---- lengths
 

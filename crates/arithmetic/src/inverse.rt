@@ -65,9 +65,9 @@ fn put_by_square(n: usize, q: f64, out: &mut [f64])
 {
     let s = out[0];
     out[0] = s + -s;
-    negate(n, out);
+    negate(&mut out[..n]);
     out[0] = out[0] + s;
-    scale(n, 1.0 / (s * s - q), out);
+    scale(1.0 / (s * s - q), &mut out[..n]);
 }
 
 // All zero, NaN at place 0.

@@ -1,6 +1,6 @@
 // Calls on one value that keep its shape.
-ghost use Rattle.std.specs.Prelude.{◌≡◌, ◌≤◌, ◌<◌, length, take};
-ghost use Rattle.masks.specs.Outcome.{IsAnswer, Gives, laid, refusal};
+ghost use Rattle.std.specs.Prelude.{◌≡◌, ◌<◌, length};
+ghost use Rattle.masks.specs.Outcome.{IsAnswer, Gives, refusal};
 ghost use Rattle.arithmetic.specs.Kept.{kept_tests, GivesTaken, take_scalar, scalar_only, make_scalar_only};
 
 use super::outcome::Taken;
@@ -27,12 +27,12 @@ pub fn take_scalar(shape: Shape, a: &[f64], out: &mut [f64]) -> Result<Taken, Re
     Ok(Taken { shape, value })
 }
 
-// +0 from place 1 on, in the first n.
-fn clear_rest(n: usize, out: &mut [f64])
-    requires { (0 < n) × (n ≤ length out.old) }
-    ensures { out.new ≡ laid (scalar_only (take n out.old)) out.old }
+// +0 from place 1 on.
+fn clear_rest(xs: &mut [f64])
+    requires { 0 < length xs.old }
+    ensures { xs.new ≡ scalar_only xs.old }
 {
-    out[1..n].fill(0.0);
+    xs[1..].fill(0.0);
 }
 
 // Every place but 0 is set to +0.
@@ -40,6 +40,6 @@ pub fn make_scalar_only(shape: Shape, a: &[f64], out: &mut [f64]) -> Result<Shap
     ensures { Gives (make_scalar_only shape a.now (length out.old)) result out.old out.new }
 {
     let kept = shape.set_dims(shape.dims, a, out)?;
-    clear_rest(a.len(), out);
+    clear_rest(&mut out[..a.len()]);
     Ok(kept)
 }

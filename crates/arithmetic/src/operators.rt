@@ -78,7 +78,7 @@ fn mul_scalar(
     ensures { Gives (with_coefs (scaled f) (conform_to left right a.now (length out.old))) result out.old out.new }
 {
     let shape = left.conform_to(right, a, out)?;
-    scale(blades_or_none(shape.dims), f, out);
+    scale(f, &mut out[..blades_or_none(shape.dims)]);
     Ok(shape)
 }
 

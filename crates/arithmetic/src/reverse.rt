@@ -16,7 +16,7 @@ fn negate_part(first: usize, count: usize, out: &mut [f64])
     requires { first + count ≤ length out.old }
     ensures { out.new ≡ take first out.old ++ map neg (take count (drop first out.old)) ++ drop (first + count) out.old }
 {
-    negate(count, &mut out[first..]);
+    negate(&mut out[first..first + count]);
 }
 
 // Grades 2, 3 mod 4 are negated in the value at the front, or where `rest` says so the others.

@@ -1,31 +1,29 @@
 // Multiplication and division by a number, and negation.
-ghost use Rattle.std.specs.Prelude.{◌≡◌, map, ◌≤◌, length, take};
+ghost use Rattle.std.specs.Prelude.{◌≡◌, map, length};
 ghost use Rattle.std.specs.Float.Ieee.{neg};
-ghost use Rattle.masks.specs.Outcome.{Gives, laid};
+ghost use Rattle.masks.specs.Outcome.{Gives};
 ghost use Rattle.arithmetic.specs.Scale.{scaled, mul_f64, div_f64, negation};
 
 use masks::outcome::Refusal;
 use masks::shape::Shape;
 
-// The first n numbers are multiplied, unless by 1.0.
-pub(crate) fn scale(n: usize, f: f64, out: &mut [f64])
-    requires { n ≤ length out.old }
-    ensures { out.new ≡ laid (scaled f (take n out.old)) out.old }
+// Every number is multiplied, unless by 1.0.
+pub(crate) fn scale(f: f64, xs: &mut [f64])
+    ensures { xs.new ≡ scaled f xs.old }
 {
     if f == 1.0 {
         return;
     }
-    for x in out[..n].iter_mut() {
+    for x in xs.iter_mut() {
         *x = *x * f;
     }
 }
 
-// The first n numbers are negated.
-pub(crate) fn negate(n: usize, out: &mut [f64])
-    requires { n ≤ length out.old }
-    ensures { out.new ≡ laid (map neg (take n out.old)) out.old }
+// Every number is negated.
+pub(crate) fn negate(xs: &mut [f64])
+    ensures { xs.new ≡ map neg xs.old }
 {
-    for x in out[..n].iter_mut() {
+    for x in xs.iter_mut() {
         *x = -*x;
     }
 }
@@ -35,7 +33,7 @@ pub fn mul_f64(shape: Shape, f: f64, a: &[f64], out: &mut [f64]) -> Result<Shape
     ensures { Gives (mul_f64 shape f a.now (length out.old)) result out.old out.new }
 {
     let kept = shape.set_dims(shape.dims, a, out)?;
-    scale(a.len(), f, out);
+    scale(f, &mut out[..a.len()]);
     Ok(kept)
 }
 
@@ -51,6 +49,6 @@ pub fn neg(shape: Shape, a: &[f64], out: &mut [f64]) -> Result<Shape, Refusal>
     ensures { Gives (negation shape a.now (length out.old)) result out.old out.new }
 {
     let kept = shape.set_dims(shape.dims, a, out)?;
-    negate(a.len(), out);
+    negate(&mut out[..a.len()]);
     Ok(kept)
 }

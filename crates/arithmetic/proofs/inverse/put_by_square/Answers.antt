@@ -1,17 +1,16 @@
 use mathlib.Core.Path.{◌≡◌, ap, ◌∙◌}
-use mathlib.Core.List.{List, map}
+use mathlib.Core.List.{List, ◌++◌, map}
 use Prim.Native.Nat.{ℕ, ◌≤◌, ◌<◌}
 use native.Mathlib.Omega.{arith}
 use lib.Ieee.{Float, nan, binary64, add, sub, mul, neg, of_bits, of_fields}
-use lib.ListN.{length, get_or, set, take, length-set, length-map}
-use lib.Seq.{length-take-le, get_or-take}
+use lib.ListN.{length, get_or, set, take, drop, length-set, length-map}
+use lib.Seq.{length-take-le, length_front, get_or-take}
 use Rattle.masks.specs.Outcome.{laid}
 use Rattle.masks.proofs.BladeLaws.{set_laid}
 use Rattle.arithmetic.specs.Scale.{scaled, reciprocal}
 use Rattle.arithmetic.specs.Inverse.{less_scalar, by_square}
-use Rattle.arithmetic.proofs.KeptLaws.{scaled_length, relaid, first_laid, set_laid as set_front}
+use Rattle.arithmetic.proofs.KeptLaws.{changed_front, scaled_length, relaid, first_laid, set_laid as set_front}
 use Rattle.arithmetic.proofs.InverseLaws.{less_scalar_length}
-use Rattle.arithmetic.proofs.inverse.put_by_square.Goals.{After-negate}
 use Rattle.arithmetic.proofs.inverse.put_by_square.Goals as goal
 
 module _ (n : ℕ) (out : List Float) (h : 0 < n) (l : n ≤ length out) where
@@ -54,10 +53,15 @@ module _ (n : ℕ) (out : List Float) (h : 0 < n) (l : n ≤ length out) where
         let k : length added ≡ n = length-set (map neg rest) 0 _ ∙ negated_length in
         relaid (scaled _) added out _ after n k (scaled_length _ added ∙ k) is_added g
 
--- The output keeps its length when it is negated.
-as_long : (c : After-negate) → length c.negate.new.out ≡ length c.args.out.now
-as_long c = c.negate.auto.out ∙ length-set c.args.out.now 0 _
-
 pub returns : goal.returns
 unfolding of_bits of_fields
-returns c = is_scaled c.args.n c.args.out.now c.requires.0 c.requires.1 c.negate.new.out c.negate.ensures c.args.q _ c.scale.ensures
+returns c =
+    let n = c.args.n in
+    let out = c.args.out.now in
+    let t = taken n out c.requires.0 c.requires.1 in
+    let mid = c.negate.new.xs ++ drop n t in
+    let long : length mid ≡ length out = length_front t c.negate.new.xs n c.negate.auto.xs ∙ length-set out 0 _ in
+    is_scaled n out c.requires.0 c.requires.1 mid
+    (changed_front (map neg) n t c.negate.new.xs (omega (arith, c.requires.1, length-set out 0 (add binary64 (get_or out 0 nan) (neg (get_or out 0 nan))))) (λ xs. length-map xs neg) c.negate.ensures)
+    c.args.q _
+    (changed_front (scaled _) n _ c.scale.new.xs (omega (arith, c.requires.1, long, length-set mid 0 (add binary64 (get_or mid 0 nan) (get_or out 0 nan)))) (scaled_length _) c.scale.ensures)

@@ -8,4 +8,4 @@ abbrev times : Float → Float → Float
 times f x = mul binary64 x f
 
 abbrev pub invariant-loop-x : goal.invariant-loop-x
-invariant-loop-x l = l.x-items ≡ map (times l.f) (take l.x-index l.initial.x-items) ++ drop l.x-index l.initial.x-items
+invariant-loop-x l = l.xs ≡ map (times l.f) (take l.x-index l.initial.xs) ++ drop l.x-index l.initial.xs
