@@ -6,7 +6,7 @@ use Prim.Native.Nat.{ℕ, ◌+◌, ◌-◌, ◌*◌, ◌/◌, ◌%◌, ◌≤◌
 use native.Mathlib.Numerals.{add-one}
 use native.Mathlib.Omega.{arith}
 use lib.Dec.{T, leb, ltb}
-use lib.ListN.{length, get_or, set, drop, length-append}
+use lib.ListN.{length, get_or, drop, length-append}
 use lib.Seq.{drop-cons, sets}
 use borrow.Author.Tests.{le-leb, lt-leb, lt-ltb, le-ltb, eq-eqb, ne_eqb}
 use Rattle.masks.specs.declared.flavor.Flavor.{Flavor}
@@ -30,12 +30,6 @@ value_le (c ∷ cs) v = omega (arith, value_le cs (v * 10 + (c - 48)))
 value_on : (t : List ℕ) (i v : ℕ) → i < length t → decimal_value v (drop i t) ≡ decimal_value (v * 10 + (get_or t i 0 - 48)) (drop (i + 1) t)
 unfolding decimal_value
 value_on t i v h = rw (drop-cons t i 0 h, add-one i)
-
-pub digit_below : (c : ℕ) → c < 48 → decimal_digit c ≡ false
-digit_below c h = rw (lt-leb 48 c h)
-
-pub digit_above : (c : ℕ) → 57 < c → decimal_digit c ≡ false
-digit_above c h = rw (lt-leb c 57 h) (and-false (leb 48 c))
 
 pub digit_in : (c : ℕ) → 48 ≤ c → c ≤ 57 → decimal_digit c ≡ true
 digit_in c h g = rw (le-leb 48 c h, le-leb c 57 g)
@@ -230,10 +224,6 @@ module _ (p n z : ℕ) where
   pub two_le : 2 ≤ length (text_of (Cl p n z))
   unfolding text_of
   two_le = omega arith
-
--- a byte, and what follows it
-pub sets_cons : {m : List ℕ} (o xs : List ℕ) (x at : ℕ) → m ≡ sets (set o at x) (at + 1) xs → m ≡ sets o at (x ∷ xs)
-sets_cons o xs x at e = rw (add-one at) at e
 
 -- an output that is written from i on is written further
 pub sets_more : {l m : List ℕ} (o xs ys : List ℕ) (i at : ℕ) → l ≡ sets o i xs → at ≡ i + length xs → m ≡ sets l at ys → m ≡ sets o i (xs ++ ys)

@@ -2,7 +2,7 @@
 use mathlib.Core.Path.{◌≡◌, refl, sym, ap, ◌∙◌}
 use mathlib.Core.Logic.{⊎_elim}
 use mathlib.Core.Bool.{Bool, true, false, not, ◌&&◌, cond, and-false}
-use mathlib.Core.List.{List, [], ◌∷◌, ◌++◌, reverse, reverse-append, reverse-reverse}
+use mathlib.Core.List.{List, [], ◌∷◌, reverse, reverse-append, reverse-reverse}
 use Prim.Native.Nat.{ℕ, suc, ◌+◌, ◌-◌, ◌≤◌, ◌<◌}
 use native.Mathlib.Numerals.{add-one, one-add}
 use native.Mathlib.Omega.{arith}
@@ -97,16 +97,6 @@ module _ (p : ℕ → Bool) (t : List ℕ) where
   pub every_end : (i : ℕ) → i ≡ length t → every p (drop i t) ≡ true
   unfolding every
   every_end i e = rw (drop_end t i e)
-
--- what is taken and what is dropped make up the whole
-take_drop : (p : ℕ → Bool) (l : List ℕ) → take_while p l ++ drop_while p l ≡ l
-unfolding take_while drop_while
-take_drop p [] = refl
-take_drop p (x ∷ xs) = go (p x) (take_drop p xs)
-  where
-    go : (b : Bool) → take_while p xs ++ drop_while p xs ≡ xs → cond b (x ∷ take_while p xs) [] ++ cond b (drop_while p xs) (x ∷ xs) ≡ x ∷ xs
-    go true e = ap (λ (l : List ℕ). x ∷ l) e
-    go false e = refl
 
 -- ---- the bytes at the front that pass a test
 

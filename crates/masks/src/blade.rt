@@ -4,6 +4,7 @@ ghost use Rattle.masks.specs.Order.{place};
 ghost use Rattle.masks.specs.Outcome.{IsAnswer, Gives, refusal, laid};
 ghost use Rattle.masks.specs.Blade.{get_blade, set_blade_tests, set_blade, blade_dims, grade_refusal, grade_part};
 
+use super::coefs::Coefs;
 use super::gather::{coefficient, copy_all, resize};
 use super::order::{blades, place_of, size_of, start_of};
 use super::outcome::{MAX_DIMS, Refusal, value_refusal};
@@ -42,12 +43,12 @@ fn set_blade_refusal(dims: u8, mask: usize, count: usize, room: usize) -> Result
 }
 
 // A value with x at a mask that it has.
-fn put_blade(dims: u8, mask: usize, x: f64, a: &[f64], out: &mut [f64])
-    requires { (dims ≤ 9) × (mask < 2 ^ dims) × (length a.now ≡ 2 ^ dims) × (2 ^ dims ≤ length out.old) }
-    ensures { out.new ≡ laid (set a.now (place dims mask) x) out.old }
+fn put_blade(value: Coefs, mask: usize, x: f64, out: &mut [f64])
+    requires { (mask < 2 ^ value.dims) × (2 ^ value.dims ≤ length out.old) }
+    ensures { out.new ≡ laid (set value.entry.numbers.now (place value.entry.dims mask) x) out.old }
 {
-    copy_all(a, out);
-    let p = place_of(dims, mask as u32);
+    copy_all(value.numbers, out);
+    let p = place_of(value.dims, mask as u32);
     out[p] = x;
 }
 
@@ -57,7 +58,8 @@ impl Shape {
         ensures { IsAnswer (get_blade self mask a.now).number (get_blade self mask a.now).value result }
     {
         value_refusal(self.dims, a.len())?;
-        Ok(coefficient(self.dims, a, mask))
+        let dims = self.dims;
+        Ok(coefficient(Coefs { dims, numbers: a }, mask))
     }
 
     // The value with x at a mask: outside, it grows by one dimension and calls itself.
@@ -72,12 +74,13 @@ impl Shape {
     {
         let dims = self.dims;
         set_blade_refusal(dims, mask, a.len(), out.len())?;
+        let value = Coefs { dims, numbers: a };
         if mask < blades(dims) {
-            put_blade(dims, mask, x, a, out);
+            put_blade(value, mask, x, out);
             return Ok(self);
         }
         let mut held = [0.0; 512];
-        resize(dims, dims + 1, a, &mut held);
+        resize(value, dims + 1, &mut held);
         let count = blades(dims + 1);
         self.with_dims(dims + 1)
             .set_blade(mask, x, &held[..count], out)

@@ -1,23 +1,22 @@
 // Coefficients read by mask and by grade, and written from the front of an output: what changes of shape, building and unpacking share.
-// A value's dimensions and its numbers are passed apart, as every public call takes them: a struct of both would be made anew for each call.
 ghost use Rattle.std.specs.Prelude.{◌≡◌, map, ◌+◌, ◌^◌, ◌≤◌, ◌<◌, length, take, drop, replicate};
 ghost use Rattle.std.proofs.lemmas.List.Edits.{sets};
 ghost use Rattle.masks.specs.Order.{order};
 ghost use Rattle.masks.specs.Outcome.{laid, nought};
 ghost use Rattle.masks.specs.Shape.{coef, negates, resized, promoted, conformed};
 
+use super::coefs::Coefs;
 use super::order::{blades, place_of, size_of};
 use super::walk::{grow, shrink};
 use std::cmp::Ordering;
 
 // The coefficient of a mask: +0 for a mask outside.
-pub(crate) fn coefficient(dims: u8, a: &[f64], mask: usize) -> f64
-    requires { (dims ≤ 9) × (length a.now ≡ 2 ^ dims) }
-    ensures { result ≡ coef dims a.now mask }
+pub(crate) fn coefficient(value: Coefs, mask: usize) -> f64
+    ensures { result ≡ coef value.entry.dims value.entry.numbers.now mask }
 {
-    if mask < blades(dims) {
-        let p = place_of(dims, mask as u32);
-        a[p]
+    if mask < blades(value.dims) {
+        let p = place_of(value.dims, mask as u32);
+        value.numbers[p]
     } else {
         0.0
     }
@@ -47,14 +46,14 @@ pub(crate) fn clear_part(count: usize, out: &mut [f64], at: usize)
 }
 
 // All coefficients at d dimensions.
-pub(crate) fn read_all(dims: u8, d: u8, a: &[f64], out: &mut [f64])
-    requires { (dims ≤ 9) × (d ≤ 9) × (length a.now ≡ 2 ^ dims) × (2 ^ d ≤ length out.old) }
-    ensures { out.new ≡ laid (map (coef dims a.now) (order d)) out.old }
+pub(crate) fn read_all(value: Coefs, d: u8, out: &mut [f64])
+    requires { (d ≤ 9) × (2 ^ d ≤ length out.old) }
+    ensures { out.new ≡ laid (map (coef value.entry.dims value.entry.numbers.now) (order d)) out.old }
 {
-    match dims.cmp(&d) {
-        Ordering::Less => grow(dims, d, a, out),
-        Ordering::Equal => copy_all(a, out),
-        Ordering::Greater => shrink(dims, d, a, out),
+    match value.dims.cmp(&d) {
+        Ordering::Less => grow(value, d, out),
+        Ordering::Equal => copy_all(value.numbers, out),
+        Ordering::Greater => shrink(value, d, out),
     }
 }
 
@@ -72,12 +71,12 @@ fn turns(dims: u8, new_dims: u8) -> bool
 }
 
 // A value at other dimensions: its coefficients there, that of mask 101 negated where the change does.
-pub(crate) fn resize(dims: u8, new_dims: u8, a: &[f64], out: &mut [f64])
-    requires { (dims ≤ 9) × (new_dims ≤ 9) × (length a.now ≡ 2 ^ dims) × (2 ^ new_dims ≤ length out.old) }
-    ensures { out.new ≡ laid (resized dims new_dims a.now) out.old }
+pub(crate) fn resize(value: Coefs, new_dims: u8, out: &mut [f64])
+    requires { (new_dims ≤ 9) × (2 ^ new_dims ≤ length out.old) }
+    ensures { out.new ≡ laid (resized value.entry.dims new_dims value.entry.numbers.now) out.old }
 {
-    read_all(dims, new_dims, a, out);
-    if turns(dims, new_dims) {
+    read_all(value, new_dims, out);
+    if turns(value.dims, new_dims) {
         let p = place_of(new_dims, 5);
         out[p] = -out[p];
     }
@@ -85,11 +84,12 @@ pub(crate) fn resize(dims: u8, new_dims: u8, a: &[f64], out: &mut [f64])
 
 // A value at one dimension more, its bit i become bit i + 1. In each grade the masks that have bit 0 come first, as many as the grade below has, and are +0;
 // then come the value's own.
-fn promote(dims: u8, a: &[f64], out: &mut [f64])
-    requires { (dims < 9) × (length a.now ≡ 2 ^ dims) × (2 ^ (dims + 1) ≤ length out.old) }
-    ensures { out.new ≡ laid (promoted 1 dims a.now) out.old }
+fn promote(value: Coefs, out: &mut [f64])
+    requires { (value.dims < 9) × (2 ^ (value.dims + 1) ≤ length out.old) }
+    ensures { out.new ≡ laid (promoted 1 value.entry.dims value.entry.numbers.now) out.old }
 {
-    out[0] = a[0];
+    let Coefs { dims, numbers } = value;
+    out[0] = numbers[0];
     let mut below: usize = 1;
     let mut i: usize = 1;
     let mut k: usize = 1;
@@ -97,27 +97,28 @@ fn promote(dims: u8, a: &[f64], out: &mut [f64])
         clear_part(below, out, k);
         k += below;
         below = size_of(dims, g + 1);
-        copy_part(a, i, below, out, k);
+        copy_part(numbers, i, below, out, k);
         i += below;
         k += below;
     }
 }
 
 // A value promoted by `up` dimensions, 0 or 1, and then at others.
-pub(crate) fn conform_by(up: u8, dims: u8, new_dims: u8, a: &[f64], out: &mut [f64])
-    requires { (up ≤ 1) × (dims + up ≤ 9) × (new_dims ≤ 9) × (length a.now ≡ 2 ^ dims) × (2 ^ new_dims ≤ length out.old) }
-    ensures { out.new ≡ laid (conformed up dims new_dims a.now) out.old }
+pub(crate) fn conform_by(up: u8, value: Coefs, new_dims: u8, out: &mut [f64])
+    requires { (up ≤ 1) × (value.dims + up ≤ 9) × (new_dims ≤ 9) × (2 ^ new_dims ≤ length out.old) }
+    ensures { out.new ≡ laid (conformed up value.entry.dims new_dims value.entry.numbers.now) out.old }
 {
     if up == 0 {
-        resize(dims, new_dims, a, out);
+        resize(value, new_dims, out);
         return;
     }
-    if dims + 1 == new_dims {
-        promote(dims, a, out);
+    let dims = value.dims + 1;
+    if dims == new_dims {
+        promote(value, out);
         return;
     }
     let mut held = [0.0; 512];
-    promote(dims, a, &mut held);
-    let count = blades(dims + 1);
-    resize(dims + 1, new_dims, &held[..count], out);
+    promote(value, &mut held);
+    let numbers = &held[..blades(dims)];
+    resize(Coefs { dims, numbers }, new_dims, out);
 }

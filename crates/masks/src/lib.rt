@@ -3,6 +3,7 @@
 
 pub mod blade;
 pub mod build;
+mod coefs;
 pub mod flavor;
 mod gather;
 pub mod order;

@@ -3,6 +3,7 @@ ghost use Rattle.std.specs.Prelude.{◌≡◌, cond, ◌+◌, ◌^◌, ◌≤◌
 ghost use Rattle.masks.specs.Outcome.{IsAnswer, Gives, GivesBoth, refusal, laid};
 ghost use Rattle.masks.specs.Shape.{with_dims, with_flavor, promotes, conformed, conformed_shape, set_dims, set_flavor, conform_to, both_tests, conform, agree};
 
+use super::coefs::Coefs;
 use super::flavor::Flavor;
 use super::gather::conform_by;
 use super::order::{blades, blades_or_none};
@@ -89,7 +90,7 @@ impl Shape {
     {
         let dims = self.dims;
         refusal_of(dims, new_dims, a.len(), out.len(), blades_or_none(new_dims))?;
-        conform_by(0, dims, new_dims, a, out);
+        conform_by(0, Coefs { dims, numbers: a }, new_dims, out);
         Ok(self.with_dims(new_dims))
     }
 
@@ -102,7 +103,7 @@ impl Shape {
         let up = promotion(own, flavor);
         let n = dims.saturating_add(up);
         refusal_of(dims, n, a.len(), out.len(), blades_or_none(n))?;
-        conform_by(up, dims, n, a, out);
+        conform_by(up, Coefs { dims, numbers: a }, n, out);
         Ok(self.with_dims(n).with_flavor(flavor))
     }
 
@@ -116,7 +117,7 @@ impl Shape {
         let up = promotion(own, theirs);
         let n = dims.saturating_add(up).max(other.dims);
         refusal_of(dims, n, a.len(), out.len(), blades_or_none(n))?;
-        conform_by(up, dims, n, a, out);
+        conform_by(up, Coefs { dims, numbers: a }, n, out);
         Ok(self.conformed(up, n))
     }
 
@@ -149,8 +150,12 @@ impl Shape {
             out.len(),
             out_right.len(),
         )?;
-        conform_by(up, dims, n, a, out);
-        conform_by(up_right, dims_right, n, b, out_right);
+        conform_by(up, Coefs { dims, numbers: a }, n, out);
+        let value_right = Coefs {
+            dims: dims_right,
+            numbers: b,
+        };
+        conform_by(up_right, value_right, n, out_right);
         let left = self.conformed(up, n);
         let right = other.conformed(up_right, n);
         Ok((left, right))

@@ -80,7 +80,7 @@ fn split_part(t: &[u8]) -> (&[u8], &[u8])
     rest.split_at(end.unwrap_or(rest.len()))
 }
 
-// Digits as a number of at most 255.
+// Digits as a number of at most 255. Byte by byte: `parse` takes text, and a part is bytes.
 fn digits(t: &[u8]) -> Option<u8>
     ensures { result ≡ octet_of t.now }
 {
@@ -153,7 +153,8 @@ fn decimal_length(n: u8) -> usize
     }
 }
 
-// A number in decimal, written from the place `at` on; the place after it.
+// A number in decimal, written from the place `at` on; the place after it. By hand: `write!` makes text in memory of its own, and the output is the
+// caller's bytes.
 fn put_decimal(n: u8, out: &mut [u8], at: usize) -> usize
     requires { at + length (decimal n) ≤ length out.old }
     ensures { (result ≡ at + length (decimal n)) × (out.new ≡ sets out.old at (decimal n)) }

@@ -7,6 +7,7 @@ ghost use Rattle.masks.specs.Build.{odd_of};
 ghost use Rattle.masks.specs.Unpack.{choose, half_masks, half_of, unpack_all, unpack_half, unpack_own_half, unpack_vector};
 
 use super::build::Parity;
+use super::coefs::Coefs;
 use super::gather::{coefficient, copy_part, read_all};
 use super::order::{blades, blades_or_none, size_of};
 use super::outcome::{MAX_DIMS, Refusal, refusal_of};
@@ -23,16 +24,17 @@ fn half_count(dims: u8) -> usize
 }
 
 // The grades of one parity, one after the other.
-fn take_half(parity: Parity, dims: u8, a: &[f64], out: &mut [f64])
-    requires { (0 < dims) × (dims ≤ 9) × (length a.now ≡ 2 ^ dims) × (2 ^ (dims - 1) ≤ length out.old) }
-    ensures { out.new ≡ laid (map (coef dims a.now) (choose (odd_of parity) (order dims))) out.old }
+fn take_half(parity: Parity, value: Coefs, out: &mut [f64])
+    requires { (0 < value.dims) × (2 ^ (value.dims - 1) ≤ length out.old) }
+    ensures { out.new ≡ laid (map (coef value.entry.dims value.entry.numbers.now) (choose (odd_of parity) (order value.entry.dims))) out.old }
 {
+    let Coefs { dims, numbers } = value;
     let mut i = 0;
     let mut k = 0;
     for g in 0..=dims {
         let count = size_of(dims, g);
         if parity.has(g) {
-            copy_part(a, i, count, out, k);
+            copy_part(numbers, i, count, out, k);
             k += count;
         }
         i += count;
@@ -40,22 +42,22 @@ fn take_half(parity: Parity, dims: u8, a: &[f64], out: &mut [f64])
 }
 
 // The blades of one parity at d dimensions; where d is 0, the coefficient of the mask `lone`.
-fn half(parity: Parity, lone: usize, dims: u8, d: u8, a: &[f64], out: &mut [f64])
-    requires { (dims ≤ 9) × (d ≤ 9) × (length a.now ≡ 2 ^ dims) × (2 ^ (d - 1) ≤ length out.old) }
-    ensures { out.new ≡ laid (map (coef dims a.now) (half_masks (odd_of parity) lone d)) out.old }
+fn half(parity: Parity, lone: usize, value: Coefs, d: u8, out: &mut [f64])
+    requires { (d ≤ 9) × (2 ^ (d - 1) ≤ length out.old) }
+    ensures { out.new ≡ laid (map (coef value.entry.dims value.entry.numbers.now) (half_masks (odd_of parity) lone d)) out.old }
 {
     if d == 0 {
-        out[0] = coefficient(dims, a, lone);
+        out[0] = coefficient(value, lone);
         return;
     }
-    if d == dims {
-        take_half(parity, d, a, out);
+    if d == value.dims {
+        take_half(parity, value, out);
         return;
     }
     let mut held = [0.0; 512];
-    read_all(dims, d, a, &mut held);
-    let count = blades(d);
-    take_half(parity, d, &held[..count], out);
+    read_all(value, d, &mut held);
+    let numbers = &held[..blades(d)];
+    take_half(parity, Coefs { dims: d, numbers }, out);
 }
 
 // The even or odd blades of a value, with refusals.
@@ -71,7 +73,7 @@ fn unpack_half(
 {
     let needed = half_count(d);
     refusal_of(dims, d, a.len(), out.len(), needed)?;
-    half(parity, lone, dims, d, a, out);
+    half(parity, lone, Coefs { dims, numbers: a }, d, out);
     Ok(needed)
 }
 
@@ -83,7 +85,7 @@ impl Shape {
         let dims = self.dims;
         let needed = blades_or_none(d);
         refusal_of(dims, d, a.len(), out.len(), needed)?;
-        read_all(dims, d, a, out);
+        read_all(Coefs { dims, numbers: a }, d, out);
         Ok(needed)
     }
 

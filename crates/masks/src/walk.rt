@@ -9,6 +9,7 @@ ghost use Rattle.masks.specs.Outcome.{laid};
 ghost use Rattle.masks.specs.Shape.{coef};
 ghost use Rattle.masks.specs.inner.Walk.{next_backwards};
 
+use super::coefs::Coefs;
 use super::order::{bit, blades};
 
 // What follows a mask, both backwards; it is not the last. Of its bits that are not the ones it ends with the lowest moves down by one, and those ones
@@ -28,10 +29,11 @@ fn next_backwards(dims: u8, x: u32) -> u32
 }
 
 // A value at the more dimensions n: its numbers in turn where a mask is its own, +0 elsewhere.
-pub(crate) fn grow(dims: u8, n: u8, a: &[f64], out: &mut [f64])
-    requires { (dims < n) × (n ≤ 9) × (length a.now ≡ 2 ^ dims) × (2 ^ n ≤ length out.old) }
-    ensures { out.new ≡ laid (map (coef dims a.now) (order n)) out.old }
+pub(crate) fn grow(value: Coefs, n: u8, out: &mut [f64])
+    requires { (value.dims < n) × (n ≤ 9) × (2 ^ n ≤ length out.old) }
+    ensures { out.new ≡ laid (map (coef value.entry.dims value.entry.numbers.now) (order n)) out.old }
 {
+    let Coefs { dims, numbers } = value;
     let last = blades(n) - 1;
     let low = bit((n - dims) as u32);
     let mut x: u32 = 0;
@@ -39,7 +41,7 @@ pub(crate) fn grow(dims: u8, n: u8, a: &[f64], out: &mut [f64])
     let mut end = blades(dims);
     for k in 0..blades(n) / 2 {
         if x % low == 0 {
-            out[k] = a[i];
+            out[k] = numbers[i];
             i += 1;
         } else {
             out[k] = 0.0;
@@ -47,7 +49,7 @@ pub(crate) fn grow(dims: u8, n: u8, a: &[f64], out: &mut [f64])
         let back = last - k;
         if (last as u32 - x) % low == 0 {
             end -= 1;
-            out[back] = a[end];
+            out[back] = numbers[end];
         } else {
             out[back] = 0.0;
         }
@@ -56,10 +58,11 @@ pub(crate) fn grow(dims: u8, n: u8, a: &[f64], out: &mut [f64])
 }
 
 // A value of the more dimensions n at fewer: its numbers in turn where a mask is theirs, and the others are left.
-pub(crate) fn shrink(n: u8, dims: u8, a: &[f64], out: &mut [f64])
-    requires { (dims < n) × (n ≤ 9) × (length a.now ≡ 2 ^ n) × (2 ^ dims ≤ length out.old) }
-    ensures { out.new ≡ laid (map (coef n a.now) (order dims)) out.old }
+pub(crate) fn shrink(value: Coefs, dims: u8, out: &mut [f64])
+    requires { (dims < value.dims) × (2 ^ dims ≤ length out.old) }
+    ensures { out.new ≡ laid (map (coef value.entry.dims value.entry.numbers.now) (order dims)) out.old }
 {
+    let Coefs { dims: n, numbers } = value;
     let last = blades(n) - 1;
     let low = bit((n - dims) as u32);
     let mut x: u32 = 0;
@@ -67,13 +70,13 @@ pub(crate) fn shrink(n: u8, dims: u8, a: &[f64], out: &mut [f64])
     let mut end = blades(dims);
     for k in 0..blades(n) / 2 {
         if x % low == 0 {
-            out[at] = a[k];
+            out[at] = numbers[k];
             at += 1;
         }
         let back = last - k;
         if (last as u32 - x) % low == 0 {
             end -= 1;
-            out[end] = a[back];
+            out[end] = numbers[back];
         }
         x = next_backwards(n, x);
     }

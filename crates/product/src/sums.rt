@@ -3,13 +3,12 @@ ghost use Rattle.std.specs.Prelude.{◌≡◌, true, map, ℕ, ◌+◌, ◌%◌,
 ghost use Rattle.std.specs.Int.Bits.{bit_and, bit_xor};
 ghost use Rattle.std.specs.Int.Count.{ones};
 ghost use Rattle.std.specs.Float.{nan, binary64};
-ghost use Rattle.std.specs.Float.Ieee.{add, sub, mul, neg, fits};
-ghost use Rattle.rounding.specs.Snap.{snap};
+ghost use Rattle.std.specs.Float.Ieee.{sub, neg, fits};
 ghost use Rattle.masks.specs.Order.{up_from};
 ghost use Rattle.masks.specs.Outcome.{laid, nought};
 ghost use Rattle.product.specs.Given.{at_mask};
 ghost use Rattle.product.specs.inner.Sums.{meets, with_pairs, subset_from, beyond, turned_mask, turned_number, turned_at, rows_below};
-ghost use Rattle.product.specs.inner.Plan.{plan_mask, taken_by, planned};
+ghost use Rattle.product.specs.inner.Plan.{plan_mask, taken_by, planned, Kept, paired};
 
 use super::metric::{Blade, Squares, blade_of, squares_of};
 use super::mode::{Mode, flavor_for};
@@ -22,17 +21,16 @@ fn odd_ones(dims: u8, f: u32) -> usize
     ensures { result ≡ ones f % 2 }
 {
     if dims < 9 {
-        return (u8::count_ones(f as u8) % 2) as usize;
+        return ((f as u8).count_ones() % 2) as usize;
     }
-    (u16::count_ones(f as u16) % 2) as usize
+    ((f as u16).count_ones() % 2) as usize
 }
 
 // One pair: a's number at the mask m times b's number, or times its negative where an odd number of m's vectors flip the sign. `ys` has both.
 fn add_pair(sums: &mut Sums, m: u32, blade: Blade, ys: &[f64])
     requires { (m < 2 ^ sums.old.dims) × (blade.mask < 2 ^ sums.old.dims) × (length ys.now ≡ 2) }
-    ensures same_reference { sums.new.acc.ghost_name ≡ sums.old.acc.ghost_name }
-    ensures kept { (sums.new.dims ≡ sums.old.dims) × (sums.new.am ≡ sums.old.am) }
-    ensures added { sums.new.acc.now ≡ set sums.old.acc.now (bit_xor m blade.mask) (add binary64 (get_or sums.old.acc.now (bit_xor m blade.mask) nan) (mul binary64 (get_or sums.old.am.now m nan) (get_or ys.now (ones (bit_and m blade.flips) % 2) nan))) }
+    ensures kept { Kept sums.old sums.new }
+    ensures added { sums.new.acc.now ≡ set sums.old.acc.now (bit_xor m blade.mask) (paired m blade ys.now sums.old) }
 {
     let c = (m ^ blade.mask) as usize;
     let sign = odd_ones(sums.dims, m & blade.flips);
@@ -42,8 +40,7 @@ fn add_pair(sums: &mut Sums, m: u32, blade: Blade, ys: &[f64])
 // A blade of b with every mask.
 fn add_all(sums: &mut Sums, blade: Blade, y: f64)
     requires { blade.mask < 2 ^ sums.old.dims }
-    ensures same_reference { sums.new.acc.ghost_name ≡ sums.old.acc.ghost_name }
-    ensures kept { (sums.new.dims ≡ sums.old.dims) × (sums.new.am ≡ sums.old.am) }
+    ensures kept { Kept sums.old sums.new }
     ensures added { sums.new.acc.now ≡ with_pairs (λ m. true) blade y sums.old.am.now sums.old.acc.now }
 {
     let ys = [y, -y];
@@ -56,8 +53,7 @@ fn add_all(sums: &mut Sums, blade: Blade, y: f64)
 fn add_subsets(sums: &mut Sums, base: u32, free: u32, from: u32, blade: Blade, y: f64)
     requires mask_bound { blade.mask < 2 ^ sums.old.dims }
     requires free_bound { (base + free < 2 ^ sums.old.dims) × (bit_and base free ≡ 0) × (bit_and from free ≡ from) }
-    ensures same_reference { sums.new.acc.ghost_name ≡ sums.old.acc.ghost_name }
-    ensures kept { (sums.new.dims ≡ sums.old.dims) × (sums.new.am ≡ sums.old.am) }
+    ensures kept { Kept sums.old sums.new }
     ensures added { sums.new.acc.now ≡ with_pairs (subset_from base free from) blade y sums.old.am.now sums.old.acc.now }
 {
     let ys = [y, -y];
@@ -75,8 +71,7 @@ fn add_subsets(sums: &mut Sums, base: u32, free: u32, from: u32, blade: Blade, y
 // A blade of b with the masks that it is within, but its own.
 fn add_beyond(sums: &mut Sums, blade: Blade, y: f64)
     requires { blade.mask < 2 ^ sums.old.dims }
-    ensures same_reference { sums.new.acc.ghost_name ≡ sums.old.acc.ghost_name }
-    ensures kept { (sums.new.dims ≡ sums.old.dims) × (sums.new.am ≡ sums.old.am) }
+    ensures kept { Kept sums.old sums.new }
     ensures added { sums.new.acc.now ≡ with_pairs (beyond blade.mask) blade y sums.old.am.now sums.old.acc.now }
 {
     let n = sums.acc.len() as u32;
@@ -90,8 +85,7 @@ fn add_beyond(sums: &mut Sums, blade: Blade, y: f64)
 fn add_blade(sums: &mut Sums, mode: Mode, blade: Blade, y: f64)
     requires mask_bound { blade.mask < 2 ^ sums.old.dims }
     requires null_value { bit_and blade.mask blade.null ≡ blade.null }
-    ensures same_reference { sums.new.acc.ghost_name ≡ sums.old.acc.ghost_name }
-    ensures kept { (sums.new.dims ≡ sums.old.dims) × (sums.new.am ≡ sums.old.am) }
+    ensures kept { Kept sums.old sums.new }
     ensures added { sums.new.acc.now ≡ with_pairs (meets mode blade) blade y sums.old.am.now sums.old.acc.now }
 {
     let full = sums.acc.len() as u32 - 1;

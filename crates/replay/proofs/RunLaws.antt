@@ -1,6 +1,6 @@
 -- A run: where the pose and a named value are held, and what a turn leaves of the log. Assumes nothing.
 use mathlib.Core.Path.{◌≡◌, refl, sym, ap, ap₂, ◌∙◌, subst}
-use mathlib.Core.Bool.{Bool, true, false, not}
+use mathlib.Core.Bool.{Bool, true, false}
 use mathlib.Core.List.{List, ◌∷◌}
 use Prim.Native.Nat.{ℕ, ◌+◌, ◌*◌, ◌^◌, ◌≤◌, ◌<◌}
 use native.Mathlib.Numerals.{add-one}
@@ -25,7 +25,7 @@ use Rattle.replay.specs.declared.step.Tried.{Tried}
 use Rattle.replay.specs.Log.{names}
 use Rattle.replay.specs.Step.{sheet_value, named, stepped, fires}
 use Rattle.replay.specs.Replay.{Replayed, carried_out, IsStop, IsReplay}
-use Rattle.replay.specs.inner.Turns.{held_value, numbers_at, IsTried, Tries, turn}
+use Rattle.replay.specs.inner.Turns.{held_value, numbers_at, IsTried, Tries}
 use Rattle.replay.proofs.StepLaws.{IsValue, stepped_value, unnamed}
 use Rattle.replay.proofs.ValueLaws.{shape_at, value_shape, shape_small, value_few, value_inside, value_lies, value_is}
 use Rattle.replay.proofs.ReplayLaws.{step_stops, step_halts, step_goes_on}
@@ -81,80 +81,64 @@ tried_named {s} {p} {v} {w} {r} {before} {after} e g = go (is_some (names s)) re
 -- ---- a turn
 
 -- The replay that is wanted is what is left of the log, from the pose that n steps led to.
-pub record Posed (sheet : Sheet) (ss : List (Option Step)) (turned : Bool) (shape : Shape) (x y : List Float) (n : ℕ) : Type 0 where
+pub record Posed (sheet : Sheet) (ss : List (Option Step)) (shape : Shape) (xs : List Float) (n : ℕ) : Type 0 where
   pub small : shape.dims ≤ 9
-  pub wide : length x ≡ 512
-  pub wide_other : length y ≡ 512
+  pub wide : length xs ≡ 512
   pub few : n ≤ length ss
-  pub same : carried_out sheet ss (sheet_value sheet 0) 0 ≡ carried_out sheet (drop n ss) (held_value shape (turn turned x y)) n
+  pub same : carried_out sheet ss (sheet_value sheet 0) 0 ≡ carried_out sheet (drop n ss) (held_value shape xs) n
 
--- The next step was tried, from the array that has its turn to the other.
-pub record Turned (sheet : Sheet) (ss : List (Option Step)) (turned : Bool) (shape : Shape) (x y : List Float) (n : ℕ) (r : Result Tried Refusal) (x' y' : List Float) : Type 0 where
-  pub posed : Posed sheet ss turned shape x y n
+-- The next step was tried, from one array to the other.
+pub record Turned (sheet : Sheet) (ss : List (Option Step)) (shape : Shape) (xs ys : List Float) (n : ℕ) (r : Result Tried Refusal) (ys' : List Float) : Type 0 where
+  pub posed : Posed sheet ss shape xs n
   pub next : n < length ss
   pub step : Step
   pub there : get_or ss n None ≡ Some step
   pub meant : IsValue (sheet_value sheet (named (Some step)))
-  pub tried : Tries step (held_value shape (turn turned x y)) (sheet_value sheet (named (Some step))) r (turn turned y x) (turn turned y' x')
-  pub kept : turn turned x' y' ≡ turn turned x y
-  pub wide : length x' ≡ 512
-  pub wide_other : length y' ≡ 512
+  pub tried : Tries step (held_value shape xs) (sheet_value sheet (named (Some step))) r ys ys'
+  pub wide : length ys' ≡ 512
 
 -- It ends here.
-pub record Ended (sheet : Sheet) (ss : List (Option Step)) (turned : Bool) (shape : Shape) (x y : List Float) (n stopped : ℕ) : Type 0 where
+pub record Ended (sheet : Sheet) (ss : List (Option Step)) (shape : Shape) (xs : List Float) (n stopped : ℕ) : Type 0 where
   pub small : shape.dims ≤ 9
-  pub wide : length x ≡ 512
-  pub wide_other : length y ≡ 512
+  pub wide : length xs ≡ 512
   pub halted : Bool
-  pub same : carried_out sheet ss (sheet_value sheet 0) 0 ≡ record { pose = held_value shape (turn turned x y); steps = n; stopped = stopped; halted = halted }
-
--- the array that has its turn is as long as both are
-turn_wide : (turned : Bool) (x y : List Float) → length x ≡ 512 → length y ≡ 512 → length (turn turned x y) ≡ 512
-turn_wide true x y p q = q
-turn_wide false x y p q = p
-
--- the turn changes
-turn_not : (turned : Bool) (x y : List Float) → turn (not turned) x y ≡ turn turned y x
-turn_not true x y = refl
-turn_not false x y = refl
+  pub same : carried_out sheet ss (sheet_value sheet 0) 0 ≡ record { pose = held_value shape xs; steps = n; stopped = stopped; halted = halted }
 
 -- at the start it is value 0
-pub begins : {sheet : Sheet} {ss : List (Option Step)} {shape : Shape} {x y : List Float} → shape.dims ≤ 9 → length x ≡ 512 → length y ≡ 512 → held_value shape x ≡ sheet_value sheet 0 → Posed sheet ss false shape x y 0
-begins h l m v = record { small = h; wide = l; wide_other = m; few = omega arith; same = rw v }
+pub begins : {sheet : Sheet} {ss : List (Option Step)} {shape : Shape} {xs : List Float} → shape.dims ≤ 9 → length xs ≡ 512 → held_value shape xs ≡ sheet_value sheet 0 → Posed sheet ss shape xs 0
+begins h l v = record { small = h; wide = l; few = omega arith; same = rw v }
 
-module _ {sheet : Sheet} {ss : List (Option Step)} {turned : Bool} {shape : Shape} {x y : List Float} {n : ℕ} where
+module _ {sheet : Sheet} {ss : List (Option Step)} {shape : Shape} {xs : List Float} {n : ℕ} where
   -- the answer, and the output
-  pub ended : {stopped : ℕ} {o : Option Refusal} {r : Replay} {before out after : List Float} → IsStop stopped o → Ended sheet ss turned shape x y n stopped → out ≡ before
-      → (r ≡ record { shape = shape; steps = n; stopped = o }) × (after ≡ laid (take (2 ^ shape.dims) (turn turned x y)) out)
+  pub ended : {stopped : ℕ} {o : Option Refusal} {r : Replay} {before out after : List Float} → IsStop stopped o → Ended sheet ss shape xs n stopped → out ≡ before
+      → (r ≡ record { shape = shape; steps = n; stopped = o }) × (after ≡ laid (take (2 ^ shape.dims) xs) out)
       → IsReplay (carried_out sheet ss (sheet_value sheet 0) 0) r × (after ≡ laid (carried_out sheet ss (sheet_value sheet 0) 0).pose.coefs before)
   ended {stopped} i t e f =
-      let whole : Replayed = record { pose = held_value shape (turn turned x y); steps = n; stopped = stopped; halted = t.halted } in
+      let whole : Replayed = record { pose = held_value shape xs; steps = n; stopped = stopped; halted = t.halted } in
       rw (t.same, ← e) (subst (IsReplay whole) (sym f.0) (record { done = refl; shape = refl; steps = refl; stopped = i }), f.1)
 
   -- what the end of a replay asks for
-  pub ended_wide : {stopped : ℕ} (out : List Float) → Ended sheet ss turned shape x y n stopped → 512 ≤ length out
-      → (shape.dims ≤ 9) × (length x ≡ 512) × (length y ≡ 512) × (512 ≤ length out)
-  ended_wide out t h = (t.small, t.wide, t.wide_other, h)
+  pub ended_wide : {stopped : ℕ} (out : List Float) → Ended sheet ss shape xs n stopped → 512 ≤ length out → (shape.dims ≤ 9) × (length xs ≡ 512) × (512 ≤ length out)
+  ended_wide out t h = (t.small, t.wide, h)
 
   -- no step is left
-  pub log_ends : Posed sheet ss turned shape x y n → length ss ≤ n → Ended sheet ss turned shape x y n 0
+  pub log_ends : Posed sheet ss shape xs n → length ss ≤ n → Ended sheet ss shape xs n 0
   unfolding carried_out
   log_ends t h =
       let m : n ≡ length ss = omega (arith, t.few) in
       record {
         small = t.small;
         wide = t.wide;
-        wide_other = t.wide_other;
         halted = false;
-        same = t.same ∙ ap (λ (rest : List (Option Step)). carried_out sheet rest (held_value shape (turn turned x y)) n) (ap (λ (k : ℕ). drop k ss) m ∙ drop-length ss);
+        same = t.same ∙ ap (λ (rest : List (Option Step)). carried_out sheet rest (held_value shape xs) n) (ap (λ (k : ℕ). drop k ss) m ∙ drop-length ss);
       }
 
-  module _ {r : Result Tried Refusal} {x' y' : List Float} (t : Turned sheet ss turned shape x y n r x' y') where
+  module _ {ys : List Float} {r : Result Tried Refusal} {ys' : List Float} (t : Turned sheet ss shape xs ys n r ys') where
     abbrev s : Option Step
     s = Some t.step
 
     abbrev pose : Outcome
-    pose = held_value shape (turn turned x y)
+    pose = held_value shape xs
 
     abbrev meant : Outcome
     meant = sheet_value sheet (named s)
@@ -165,54 +149,48 @@ module _ {sheet : Sheet} {ss : List (Option Step)} {turned : Bool} {shape : Shap
     begun : carried_out sheet ss (sheet_value sheet 0) 0 ≡ carried_out sheet (s ∷ drop (n + 1) ss) pose n
     begun = t.posed.same ∙ ap (λ (rest : List (Option Step)). carried_out sheet rest pose n) (drop-cons ss n None t.next ∙ rw (t.there, add-one))
 
-    -- stopped with a number, the pose being at the front of xs
-    abbrev stop : List Float → ℕ → Replayed
-    stop xs j = record { pose = held_value shape xs; steps = n; stopped = j; halted = false }
+    -- it stops with a number
+    abbrev stop : ℕ → Replayed
+    stop k = record { pose = pose; steps = n; stopped = k; halted = false }
 
     -- the step is refused: the pose stays
-    pub refused_ends : (e : Refusal) → r ≡ Err e → Ended sheet ss turned shape x' y' n (number_of e)
+    pub refused_ends : (e : Refusal) → r ≡ Err e → Ended sheet ss shape xs n (number_of e)
     refused_ends e q =
         let m : after.number ≡ number_of e = MatchResult-at_err (IsTried after (fires s pose meant)) (λ refused. after.number ≡ number_of refused) e q t.tried.answered in
         record {
           small = t.posed.small;
-          wide = t.wide;
-          wide_other = t.wide_other;
+          wide = t.posed.wide;
           halted = false;
-          same = begun ∙ step_stops sheet s (drop (n + 1) ss) pose n (λ d. refuses e (sym m ∙ d)) ∙ ap₂ stop (sym t.kept) m;
+          same = begun ∙ step_stops sheet s (drop (n + 1) ss) pose n (λ d. refuses e (sym m ∙ d)) ∙ ap stop m;
         }
 
     module _ (w : Tried) (q : r ≡ Ok w) where
       told : IsTried after (fires s pose meant) w
       told = MatchResult-at_ok (IsTried after (fires s pose meant)) (λ refused. after.number ≡ number_of refused) w q t.tried.answered
 
-      pose_is : IsValue pose
-      pose_is = held_value_lem shape (turn turned x y) t.posed.small (turn_wide turned x y t.posed.wide t.posed.wide_other)
-
       after_is : IsValue after
-      after_is = stepped_value s pose meant pose_is t.meant told.done
+      after_is = stepped_value s pose meant (held_value_lem shape xs t.posed.small t.posed.wide) t.meant told.done
 
       -- the pose that it leads to is in the other array
-      after_held : held_value w.shape (turn (not turned) x' y') ≡ after
-      after_held = laid_held after w.shape (turn turned y x) (turn (not turned) x' y') after_is told.shape (turn_not turned x' y' ∙ t.tried.left)
+      after_held : held_value w.shape ys' ≡ after
+      after_held = laid_held after w.shape ys ys' after_is told.shape t.tried.left
 
       -- it halts
-      pub halted_ends : w.halts ≡ true → Ended sheet ss (not turned) w.shape x' y' (n + 1) 0
+      pub halted_ends : w.halts ≡ true → Ended sheet ss w.shape ys' (n + 1) 0
       halted_ends z =
           record {
             small = rw told.shape after_is.small;
             wide = t.wide;
-            wide_other = t.wide_other;
             halted = true;
             same = begun ∙ step_halts sheet s (drop (n + 1) ss) pose n told.done (sym told.halts ∙ z) ∙ rw after_held;
           }
 
       -- it is carried out
-      pub goes_on : w.halts ≡ false → Posed sheet ss (not turned) w.shape x' y' (n + 1)
+      pub goes_on : w.halts ≡ false → Posed sheet ss w.shape ys' (n + 1)
       goes_on z =
           record {
             small = rw told.shape after_is.small;
             wide = t.wide;
-            wide_other = t.wide_other;
             few = omega (arith, t.next);
             same = begun ∙ step_goes_on sheet s (drop (n + 1) ss) pose n told.done (sym told.halts ∙ z) ∙ rw after_held;
           }

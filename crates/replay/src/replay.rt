@@ -6,7 +6,6 @@ ghost use Rattle.sheets.specs.Shapes.{shapes_of};
 ghost use Rattle.replay.specs.Log.{steps_of, log_tests};
 ghost use Rattle.replay.specs.Step.{sheet_value};
 ghost use Rattle.replay.specs.Replay.{carried_out, replay, IsReplay, Replays};
-ghost use Rattle.replay.specs.inner.Turns.{turn};
 
 use super::log::{log_refusal, step_of};
 use super::outcome::Replay;
@@ -17,6 +16,7 @@ use masks::outcome::Refusal;
 use masks::shape::Shape;
 use sheets::read::check;
 use sheets::shapes::Shapes;
+use std::mem::swap;
 
 // The form of the rig sheet that there is.
 pub const FIRST_FORM: u8 = 1;
@@ -29,25 +29,18 @@ fn put_first(n: usize, a: &[f64], out: &mut [f64])
     out[..n].copy_from_slice(&a[..n]);
 }
 
-// The end of a replay: the pose, from the array that has its turn.
+// The end of a replay: the pose, from the front of its array.
 fn finish(
-    turned: bool,
     shape: Shape,
     steps: usize,
     stopped: Option<Refusal>,
-    x: &[f64],
-    y: &[f64],
+    pose: &[f64],
     out: &mut [f64],
 ) -> Replay
-    requires { (shape.dims ≤ 9) × (length x.now ≡ 512) × (length y.now ≡ 512) × (512 ≤ length out.old) }
-    ensures { (result ≡ record { shape = shape; steps = steps; stopped = stopped }) × (out.new ≡ laid (take (2 ^ shape.dims) (turn turned x.now y.now)) out.old) }
+    requires { (shape.dims ≤ 9) × (length pose.now ≡ 512) × (512 ≤ length out.old) }
+    ensures { (result ≡ record { shape = shape; steps = steps; stopped = stopped }) × (out.new ≡ laid (take (2 ^ shape.dims) pose.now) out.old) }
 {
-    let n = blades_or_none(shape.dims);
-    if turned {
-        put_first(n, y, out);
-    } else {
-        put_first(n, x, out);
-    }
+    put_first(blades_or_none(shape.dims), pose, out);
     Replay {
         shape,
         steps,
@@ -55,7 +48,7 @@ fn finish(
     }
 }
 
-// The steps of a log, from value 0 on; the pose is in two arrays that take turns.
+// The steps of a log, from value 0 on; the pose goes from one of two arrays to the other.
 fn run(sheet: &[u8], shapes: &Shapes, log: &[u8], out: &mut [f64]) -> Replay
     requires { (is_sheet_bytes sheet.now ≡ true) × (shapes.now ≡ shapes_of (said sheet.now).shapes) × (refusal (log_tests (length (said sheet.now).shapes) (steps_of log.now)) ≡ 0) × (512 ≤ length out.old) }
     ensures { IsReplay (carried_out (said sheet.now) (steps_of log.now) (sheet_value (said sheet.now) 0) 0) result × (out.new ≡ laid (carried_out (said sheet.now) (steps_of log.now) (sheet_value (said sheet.now) 0) 0).pose.coefs out.old) }
@@ -69,24 +62,25 @@ fn run(sheet: &[u8], shapes: &Shapes, log: &[u8], out: &mut [f64]) -> Replay
     put_starts(listed, &mut starts);
     let mut shape = listed[0];
     put_value(sheet, count, 0, blades_or_none(shape.dims), &mut x);
-    let mut turned = false;
+    let mut pose = &mut x;
+    let mut next = &mut y;
     let (pairs, _) = log.as_chunks::<2>();
     for (steps, pair) in pairs.iter().enumerate() {
         let step = step_of(pair[0], pair[1]).unwrap();
         let k = usize::from(step.names().unwrap_or(0));
         let other = listed[k];
         put_named(step, other, sheet, count, starts[k], &mut held);
-        let tried = match take_turn(turned, step, shape, other, &held, &mut x, &mut y) {
+        let tried = match take_turn(step, shape, other, &*pose, &held, &mut *next) {
             Ok(tried) => tried,
-            Err(refusal) => return finish(turned, shape, steps, Some(refusal), &x, &y, out),
+            Err(refusal) => return finish(shape, steps, Some(refusal), &*pose, out),
         };
         shape = tried.shape;
-        turned = !turned;
+        swap(&mut pose, &mut next);
         if tried.halts {
-            return finish(turned, shape, steps + 1, None, &x, &y, out);
+            return finish(shape, steps + 1, None, &*pose, out);
         }
     }
-    finish(turned, shape, pairs.len(), None, &x, &y, out)
+    finish(shape, pairs.len(), None, &*pose, out)
 }
 
 // The pose that a log leads to over the values of a sheet, from the front of the output.

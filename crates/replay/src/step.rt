@@ -2,7 +2,7 @@
 ghost use Rattle.std.specs.Prelude.{◌≡◌, false, ℕ, ◌^◌, ◌≤◌, length, Ok, Err, MatchResult};
 ghost use Rattle.masks.specs.Outcome.{value};
 ghost use Rattle.replay.specs.declared.log.Step.TheVariants.{Halt};
-ghost use Rattle.replay.specs.inner.Turns.{held_value, Tries, turn};
+ghost use Rattle.replay.specs.inner.Turns.{held_value, Tries};
 
 use super::log::Step;
 use arithmetic::compare::eq;
@@ -12,7 +12,7 @@ use masks::order::blades_or_none;
 use masks::outcome::Refusal;
 use masks::shape::Shape;
 
-// A step that was tried: the shape of the pose after it, and whether it is a halting step that fires.
+// A step that was tried: the shape of the pose after it, which a halting step has too, and whether it is one that fires.
 #[derive(Clone, Copy)]
 pub struct Tried {
     pub shape: Shape,
@@ -66,23 +66,19 @@ fn try_step(
     }
 }
 
-// A step, from the array that has its turn to the other.
+// A step, from the pose at the front of one array to the front of the other.
 pub(crate) fn take_turn(
-    turned: bool,
     step: Step,
     shape: Shape,
     other: Shape,
+    pose: &[f64],
     named: &[f64],
-    x: &mut [f64],
-    y: &mut [f64],
+    next: &mut [f64],
 ) -> Result<Tried, Refusal>
-    requires { (shape.dims ≤ 9) × (other.dims ≤ 9) × (length named.now ≡ 512) × (length x.old ≡ 512) × (length y.old ≡ 512) }
-    ensures { Tries step (held_value shape (turn turned x.old y.old)) (held_value other named.now) result (turn turned y.old x.old) (turn turned y.new x.new) × (turn turned x.new y.new ≡ turn turned x.old y.old) }
+    requires { (shape.dims ≤ 9) × (other.dims ≤ 9) × (length pose.now ≡ 512) × (length named.now ≡ 512) × (length next.old ≡ 512) }
+    ensures { Tries step (held_value shape pose.now) (held_value other named.now) result next.old next.new }
 {
     let n = blades_or_none(shape.dims);
     let m = blades_or_none(other.dims);
-    if turned {
-        return try_step(step, shape, other, &y[0..n], &named[0..m], x);
-    }
-    try_step(step, shape, other, &x[0..n], &named[0..m], y)
+    try_step(step, shape, other, &pose[0..n], &named[0..m], next)
 }

@@ -101,8 +101,13 @@ padded_first w h =
 pub padded_length : (s : Shape) → length (shape_bytes s ++ 0 ∷ 0 ∷ []) ≡ 8
 padded_length s = omega (arith, length-append (shape_bytes s) (0 ∷ 0 ∷ []), shape_bytes-length s)
 
-pub list_bytes-length : (s : Shapes) → length (list_bytes s) ≡ 6 * length (listed_shapes s)
-list_bytes-length s = all_bytes-length shape_bytes 6 shape_bytes-length (listed_shapes s)
+-- six to each that is listed
+pub list_bytes_each : (s : Shapes) → length (list_bytes s) ≡ 6 * length (listed_shapes s)
+list_bytes_each s = all_bytes-length shape_bytes 6 shape_bytes-length (listed_shapes s)
+
+pub list_bytes-length : (s : Shapes) → length s.held ≡ 64 → length (list_bytes s) ≡ 6 * min s.count 64
+list_bytes-length s e =
+    list_bytes_each s ∙ ap (λ (k : ℕ). 6 * k) (ap length (sym (listed_most s e)) ∙ length-take-le (min s.count 64) s.held (omega arith))
 
 -- ---- a list that is written
 
@@ -110,13 +115,13 @@ list_bytes-length s = all_bytes-length shape_bytes 6 shape_bytes-length (listed_
 pub list_refused : (s : Shapes) (out : List ℕ) → length out < 6 * length (listed_shapes s) → Writes (shape_list s (length out)) (Err NoRoom) out out
 unfolding shape_list refusal
 list_refused s out h =
-    writes_refused _ NoRoom _ out (rw (lt-ltb (length out) (length (list_bytes s)) (omega (arith, list_bytes-length s))))
+    writes_refused _ NoRoom _ out (rw (lt-ltb (length out) (length (list_bytes s)) (omega (arith, list_bytes_each s))))
 
 -- and else written from the front
 pub list_done : (s : Shapes) (n : ℕ) (out after : List ℕ) → n ≡ 6 * length (listed_shapes s) → n ≤ length out → after ≡ sets out 0 (all_bytes (shape_in 6) (listed_shapes s)) → Writes (shape_list s (length out)) (Ok n) out after
 unfolding shape_list refusal
 list_done s n out after e h w =
-    let l : n ≡ length (list_bytes s) = omega (arith, list_bytes-length s) in
+    let l : n ≡ length (list_bytes s) = omega (arith, list_bytes_each s) in
     writes_done _ _ _ out after (rw (le-ltb (length out) (length (list_bytes s)) (omega arith))) refl l
     (w ∙ ap (sets out 0) (six_whole (listed_shapes s)) ∙ sets_laid (list_bytes s) out (omega arith))
 

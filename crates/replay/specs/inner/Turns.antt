@@ -1,5 +1,5 @@
 -- The arrays in which a pose and a named value are held. For the contracts of private functions: no public contract rests on it. Assumes nothing.
-use Rattle.std.specs.Prelude.{◌≡◌, Bool, cond, List, map, ℕ, ◌+◌, ◌*◌, ◌^◌, Float, take, drop, Some, Result, MatchResult}
+use Rattle.std.specs.Prelude.{◌≡◌, Bool, List, map, ℕ, ◌+◌, ◌*◌, ◌^◌, Float, take, drop, Some, Result, MatchResult}
 use Rattle.std.specs.Float.{binary64}
 use Rattle.std.specs.Float.Ieee.{of_bits}
 use Rattle.masks.specs.declared.outcome.Refusal.{Refusal}
@@ -28,7 +28,3 @@ pub record IsTried (o : Outcome) (fired : Bool) (t : Tried) : Type 0 where
 pub record Tries (s : Step) (p v : Outcome) (r : Result Tried Refusal) (before after : List Float) : Type 0 where
   pub answered : MatchResult r (IsTried (stepped (Some s) p v) (fires (Some s) p v)) (λ refused. (stepped (Some s) p v).number ≡ number_of refused)
   pub left : after ≡ laid (stepped (Some s) p v).coefs before
-
--- The array that has its turn, and the other.
-abbrev pub turn {ℓ} : {A : Type ℓ} → Bool → A → A → A
-turn turned x y = cond turned y x

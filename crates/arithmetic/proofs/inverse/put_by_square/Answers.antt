@@ -58,18 +58,6 @@ module _ (n : ℕ) (out : List Float) (h : 0 < n) (l : n ≤ length out) where
 as_long : (c : After-negate) → length c.negate.new.out ≡ length c.args.out.now
 as_long c = c.negate.auto.out ∙ length-set c.args.out.now 0 _
 
-pub bounds-out-0-3 : goal.bounds-out-0-3
-bounds-out-0-3 c = omega (arith, as_long (goal.at.bounds-out-0-3 c).After-negate)
-
-pub bounds-out-0-4 : goal.bounds-out-0-4
-bounds-out-0-4 c = omega (arith, as_long (goal.at.bounds-out-0-4 c).After-negate)
-
-pub scale-requires : goal.scale-requires
-scale-requires c = simp length-set (omega (arith, as_long (goal.at.scale-requires c).After-negate))
-
-pub shape_of-out : goal.shape_of-out
-shape_of-out c = c.scale.auto.out ∙ length-set c.negate.new.out 0 _ ∙ as_long (goal.at.shape_of-out c).After-negate
-
 pub returns : goal.returns
 unfolding of_bits of_fields
 returns c = is_scaled c.args.n c.args.out.now c.requires.0 c.requires.1 c.negate.new.out c.negate.ensures c.args.q _ c.scale.ensures

@@ -12,9 +12,6 @@ use Rattle.arithmetic.proofs.inverse.put_inverse.Goals as goal
 decided : (s : Shape) (a out : List Float) (u : ScalarTest) → u ≡ test_of s a → laid (inverse_by u s a) out ≡ laid (inverse_of s a) out
 decided s a out u e = ap (λ (v : ScalarTest). laid (inverse_by v s a) out) e
 
-pub put_general-requires : goal.put_general-requires
-put_general-requires c = record { in_order = c.requires.in_order; dims_bound = (c.requires.dims_bound.0, c.requires.dims_bound.1, c.requires.dims_bound.2) }
-
 pub returns-in-Scalar : goal.returns-in-Scalar
 unfolding inverse_by
 returns-in-Scalar c = let a = c.args in c.put_reciprocal.ensures ∙ decided a.shape a.a.now a.out.now _ c.in-Scalar.ensures

@@ -3,6 +3,3 @@ use Rattle.arithmetic.proofs.operators.mul.Goals as goal
 
 pub mul_by-requires : goal.mul_by-requires
 mul_by-requires c = passed_none _
-
-pub returns : goal.returns
-returns c = c.mul_by.ensures

@@ -13,21 +13,18 @@ use Rattle.masks.proofs.blade.put_blade.Goals as goal
 low : (d m : ℕ) (a : List Float) → m < 2 ^ d → length a ≡ 2 ^ d → place d m < length a
 low d m a h e = omega (arith, place_lt d m h)
 
-pub overflow_cast-mask : goal.overflow_cast-mask
-overflow_cast-mask c = omega (arith, blades_le c.args.dims c.requires.0)
-
 pub offset_bounds-out-p : goal.offset_bounds-out-p
 offset_bounds-out-p c =
     let a = c.args in
-    omega (arith, low a.dims a.mask a.a.now c.requires.1 c.requires.2, blades_le a.dims c.requires.0)
+    omega (arith, low a.value.dims a.mask a.value.numbers.now c.requires.0 c.args.value.counted, blades_le a.value.dims c.args.value.small)
 
 pub bounds-out-p : goal.bounds-out-p
 bounds-out-p c =
     let a = c.args in
-    omega (arith, low a.dims a.mask a.a.now c.requires.1 c.requires.2)
+    omega (arith, low a.value.dims a.mask a.value.numbers.now c.requires.0 c.args.value.counted)
 
 pub returns : goal.returns
 returns c =
     let a = c.args in
     rw (c.copy_all.ensures, c.place_of-p.ensures)
-    (set_laid (place a.dims a.mask) a.x a.a.now a.out.now (low a.dims a.mask a.a.now c.requires.1 c.requires.2))
+    (set_laid (place a.value.dims a.mask) a.x a.value.numbers.now a.out.now (low a.value.dims a.mask a.value.numbers.now c.requires.0 c.args.value.counted))

@@ -8,25 +8,25 @@ use Rattle.masks.proofs.ShapeLaws.{coef_inside, coef_outside}
 use Rattle.masks.proofs.gather.coefficient.Goals.{After-place_of-p}
 use Rattle.masks.proofs.gather.coefficient.Goals as goal
 
-low : (c : After-place_of-p) → c.place_of-p.result < 2 ^ c.args.dims
+low : (c : After-place_of-p) → c.place_of-p.result < 2 ^ c.args.value.dims
 low c =
     let a = c.args in
-    omega (arith, c.place_of-p.ensures, place_lt a.dims a.mask (omega (arith, c.if-mask-blades.true, c.blades.ensures)))
+    omega (arith, c.place_of-p.ensures, place_lt a.value.dims a.mask (omega (arith, c.if-mask-blades.true, c.blades.ensures)))
 
-pub offset_bounds-a-p : goal.offset_bounds-a-p
-offset_bounds-a-p c = omega (arith, low c, blades_le c.args.dims c.requires.0)
+pub offset_bounds-value-p : goal.offset_bounds-value-p
+offset_bounds-value-p c = omega (arith, low c, blades_le c.args.value.dims c.args.value.small)
 
-pub bounds-a-p : goal.bounds-a-p
-bounds-a-p c = omega (arith, low (goal.at.bounds-a-p c).After-place_of-p)
+pub bounds-value-p : goal.bounds-value-p
+bounds-value-p c = omega (arith, low (goal.at.bounds-value-p c).After-place_of-p, c.args.value.counted)
 
 pub returns-then-mask-blades : goal.returns-then-mask-blades
 returns-then-mask-blades c =
     let a = c.args in
-    ap (λ k. get_or a.a.now k nan) c.place_of-p.ensures
-    ∙ sym (coef_inside a.dims a.mask a.a.now (omega (arith, c.if-mask-blades.true, c.blades.ensures)))
+    ap (λ k. get_or a.value.numbers.now k nan) c.place_of-p.ensures
+    ∙ sym (coef_inside a.value.dims a.mask a.value.numbers.now (omega (arith, c.if-mask-blades.true, c.blades.ensures)))
 
 pub returns-else-mask-blades : goal.returns-else-mask-blades
 unfolding of_bits of_fields
 returns-else-mask-blades c =
     let a = c.args in
-    sym (coef_outside a.dims a.mask a.a.now (omega (arith, c.blades.ensures)))
+    sym (coef_outside a.value.dims a.mask a.value.numbers.now (omega (arith, c.blades.ensures)))

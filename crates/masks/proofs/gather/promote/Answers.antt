@@ -19,13 +19,13 @@ use Rattle.masks.proofs.gather.promote.Goals as goal
 -- what each turn rests on
 module _ (c : At-loop-g) where
   abbrev d : ℕ
-  d = c.args.dims
+  d = c.args.value.dims
 
   abbrev g : ℕ
   g = c.loop-g.g
 
   abbrev a : List Float
-  a = c.args.a.now
+  a = c.args.value.numbers.now
 
   -- the output that the loop begins with
   abbrev out : List Float
@@ -39,25 +39,25 @@ module _ (c : At-loop-g) where
   kept =
       let xs : List ℕ = grades_below (d + 1) (g + 1) in
       ap length c.loop-g.invariant.3
-      ∙ laid_length (map (promoted_coef d a) xs) out (omega (arith, long, length-map xs (promoted_coef d a), below_within (d + 1) (g + 1) (omega arith), c.requires.2)) ∙ long
+      ∙ laid_length (map (promoted_coef d a) xs) out (omega (arith, long, length-map xs (promoted_coef d a), below_within (d + 1) (g + 1) (omega arith), c.requires.1)) ∙ long
 
   -- the numbers of the next grade, and room for them
   module _ (h : g ≤ d) where
     part : c.loop-g.i + size d (g + 1) ≤ length a
-    part = omega (arith, c.loop-g.invariant.1, c.requires.1, part_within d (g + 1) (omega arith))
+    part = omega (arith, c.loop-g.invariant.1, c.args.value.counted, part_within d (g + 1) (omega arith))
 
     room : c.loop-g.k + (c.loop-g.below + size d (g + 1)) ≤ length c.loop-g.out
     room =
         omega
-        (arith, kept, c.loop-g.invariant.0, c.loop-g.invariant.2, c.requires.2, part_within (d + 1) (g + 1) (omega arith), size_both d g)
+        (arith, kept, c.loop-g.invariant.0, c.loop-g.invariant.2, c.requires.1, part_within (d + 1) (g + 1) (omega arith), size_both d g)
 
 pub loop-g-init : goal.loop-g-init
 loop-g-init c =
-    let d = c.args.dims in (
+    let d = c.args.value.dims in (
       sym (size_zero d),
       sym (start_one d),
       sym (start_one (d + 1)),
-      promoted_begun d c.args.a.now c.requires.1 c.args.out.now (omega (arith, pow_pos (d + 1), c.requires.2)),
+      promoted_begun d c.args.value.numbers.now c.args.value.counted c.args.out.now (omega (arith, pow_pos (d + 1), c.requires.1)),
     )
 
 pub clear_part-requires : goal.clear_part-requires
@@ -88,7 +88,7 @@ loop-g-preserved c =
       c.copy_part.ensures
           ∙ ap (λ xs. sets xs (l.k + l.below) (take c.size_of-below.result (drop l.i (a (goal.at.loop-g-preserved c).At-loop-g))))
           (c.clear_part.ensures ∙ ap (λ xs. sets xs l.k (replicate l.below nought)) l.invariant.3)
-          ∙ promoted_next (d (goal.at.loop-g-preserved c).At-loop-g) (a (goal.at.loop-g-preserved c).At-loop-g) c.requires.1 (g (goal.at.loop-g-preserved c).At-loop-g) (out (goal.at.loop-g-preserved c).At-loop-g) l.invariant.0 l.invariant.1 l.invariant.2 e h (omega (arith, long (goal.at.loop-g-preserved c).At-loop-g, c.requires.2)),
+          ∙ promoted_next (d (goal.at.loop-g-preserved c).At-loop-g) (a (goal.at.loop-g-preserved c).At-loop-g) c.args.value.counted (g (goal.at.loop-g-preserved c).At-loop-g) (out (goal.at.loop-g-preserved c).At-loop-g) l.invariant.0 l.invariant.1 l.invariant.2 e h (omega (arith, long (goal.at.loop-g-preserved c).At-loop-g, c.requires.1)),
     )
 
 pub returns : goal.returns

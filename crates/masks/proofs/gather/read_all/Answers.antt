@@ -11,7 +11,7 @@ use Rattle.masks.proofs.gather.read_all.Goals as goal
 pub returns-in-Equal : goal.returns-in-Equal
 returns-in-Equal c =
     let a = c.args in
-    let e : a.dims ≡ a.d = grind (arith, common_steps) in
+    let e : a.value.dims ≡ a.d = grind (arith, common_steps) in
     c.copy_all.ensures
     ∙ ap (λ xs. laid xs a.out.now)
-    (sym (ordered (coef a.dims a.a.now) a.dims a.a.now c.requires.2 (λ m l. refl)) ∙ ap (λ n. map (coef a.dims a.a.now) (order n)) e)
+    (sym (ordered (coef a.value.dims a.value.numbers.now) a.value.dims a.value.numbers.now c.args.value.counted (λ m l. refl)) ∙ ap (λ n. map (coef a.value.dims a.value.numbers.now) (order n)) e)

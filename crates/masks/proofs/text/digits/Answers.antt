@@ -1,4 +1,4 @@
-use mathlib.Core.Path.{◌≡◌, refl, sym, ◌∙◌}
+use mathlib.Core.Path.{◌≡◌, sym, ◌∙◌}
 use native.Mathlib.Omega.{arith}
 use borrow.Author.Tests.{eqb-true, eqb-false}
 use lib.ListN.{length}
@@ -7,9 +7,6 @@ use Rattle.masks.proofs.text.digits.Goals as goal
 
 pub returns-then-is_empty : goal.returns-then-is_empty
 returns-then-is_empty c = sym (octet_empty c.args.t.now (eqb-true _ _ (sym c.is_empty.ensures ∙ c.if-is_empty.true)))
-
-pub loop-c-init : goal.loop-c-init
-loop-c-init c = record { within = omega arith; small = omega arith; digital = refl; valued = refl }
 
 pub returns-then-not-is_ascii_digit : goal.returns-then-not-is_ascii_digit
 returns-then-not-is_ascii_digit c =

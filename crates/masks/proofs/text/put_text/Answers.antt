@@ -34,9 +34,6 @@ slice_bounds-copy_from_slice-end-in-Projective-2 c = sym (length-take-le 3 _ (ro
 pub copy_from_slice-requires-in-Projective : goal.copy_from_slice-requires-in-Projective
 copy_from_slice-requires-in-Projective c = length-take-le 3 _ (room_projective (goal.at.copy_from_slice-requires-in-Projective c).In-Projective)
 
-pub put_cl-requires : goal.put_cl-requires
-put_cl-requires c = rw c.in-Cl.is at c.requires
-
 pub returns-in-Vanilla : goal.returns-in-Vanilla
 unfolding text_of
 returns-in-Vanilla c = rw c.in-Vanilla.is (ap (λ xs. xs ++ drop 3 c.args.out.now) c.copy_from_slice.ensures.after)
@@ -44,6 +41,3 @@ returns-in-Vanilla c = rw c.in-Vanilla.is (ap (λ xs. xs ++ drop 3 c.args.out.no
 pub returns-in-Projective : goal.returns-in-Projective
 unfolding text_of
 returns-in-Projective c = rw c.in-Projective.is (ap (λ xs. xs ++ drop 3 c.args.out.now) c.copy_from_slice-in-Projective.ensures.after)
-
-pub returns-in-Cl : goal.returns-in-Cl
-returns-in-Cl c = rw c.in-Cl.is c.put_cl.ensures

@@ -27,45 +27,36 @@ enough d count held h c l = omega (arith, blades_le d h)
 chosen : (odd lone dims d : ℕ) (a out : List Float) → (d ≡ 0 → ⊥) → laid (map (coef dims a) (choose odd (order d))) out ≡ laid (map (coef dims a) (half_masks odd lone d)) out
 chosen odd lone dims d a out h = rw (half_masks_lem odd lone d h)
 
-pub bounds-out-0 : goal.bounds-out-0
-bounds-out-0 c = room c.args.d _ c.requires.3
-
 pub returns-then-d-eq0 : goal.returns-then-d-eq0
 returns-then-d-eq0 c =
-    set_split c.args.out.now 0 c.coefficient.result (room c.args.d _ c.requires.3)
+    set_split c.args.out.now 0 c.coefficient.result (room c.args.d _ c.requires.1)
     ∙ rw (c.coefficient.ensures, lone_mask (odd_of c.args.parity) c.args.lone c.args.d c.if-d-eq0.true)
 
-pub take_half-requires : goal.take_half-requires
-take_half-requires c =
-    let p = c.requires in
-    (omega (arith, c.if-d-eq0.false), p.1, p.2 ∙ ap (λ n. 2 ^ n) (sym c.if-d-dims.true), p.3)
-
-pub returns-then-d-dims : goal.returns-then-d-dims
-returns-then-d-dims c =
+pub returns-then-d-value : goal.returns-then-d-value
+returns-then-d-value c =
     let a = c.args in
     c.take_half.ensures
-    ∙ ap (λ n. laid (map (coef n a.a.now) (choose (odd_of a.parity) (order a.d))) a.out.now) c.if-d-dims.true
-    ∙ chosen (odd_of a.parity) a.lone a.dims a.d a.a.now a.out.now c.if-d-eq0.false
+    ∙ ap (λ n. laid (map (coef a.value.dims a.value.numbers.now) (choose (odd_of a.parity) (order n))) a.out.now) (sym c.if-d-value.true)
+    ∙ chosen (odd_of a.parity) a.lone a.value.dims a.d a.value.numbers.now a.out.now c.if-d-eq0.false
 
 pub read_all-requires : goal.read_all-requires
-read_all-requires c =
-    let p = c.requires in
-    (p.0, p.1, p.2, blades_le c.args.d c.requires.1)
+read_all-requires c = (c.requires.0, blades_le c.args.d c.requires.0)
 
 pub slice_bounds-held-end : goal.slice_bounds-held-end
-slice_bounds-held-end c = enough c.args.d _ _ c.requires.1 c.blades-count.ensures c.read_all.auto.out
+slice_bounds-held-end c = enough c.args.d _ _ c.requires.0 c.blades.ensures c.read_all.auto.out
 
-pub slice_bounds-take_half-end : goal.slice_bounds-take_half-end
-slice_bounds-take_half-end c = sym (length-take-le _ _ (enough c.args.d _ _ c.requires.1 c.blades-count.ensures c.read_all.auto.out))
+pub slice_bounds-numbers-end : goal.slice_bounds-numbers-end
+slice_bounds-numbers-end c = sym (length-take-le _ _ (enough c.args.d _ _ c.requires.0 c.blades.ensures c.read_all.auto.out))
 
-pub take_half-requires-2 : goal.take_half-requires-2
-take_half-requires-2 c =
-    let p = c.requires in
-    (omega (arith, c.if-d-eq0.false), p.1, length-take-le _ _ (enough c.args.d _ _ c.requires.1 c.blades-count.ensures c.read_all.auto.out) ∙ c.blades-count.ensures, p.3)
+pub invariant_of-take_half : goal.invariant_of-take_half
+invariant_of-take_half c = record {
+  small = c.requires.0;
+  counted = length-take-le _ _ (enough c.args.d _ _ c.requires.0 c.blades.ensures c.read_all.auto.out) ∙ c.blades.ensures;
+}
 
 pub returns : goal.returns
 returns c =
     let a = c.args in
     c.take_half-2.ensures
-    ∙ ap (λ xs. laid xs a.out.now) (half_held (odd_of a.parity) a.dims a.d _ a.a.now _ _ c.blades-count.ensures c.read_all.ensures)
-    ∙ chosen (odd_of a.parity) a.lone a.dims a.d a.a.now a.out.now c.if-d-eq0.false
+    ∙ ap (λ xs. laid xs a.out.now) (half_held (odd_of a.parity) a.value.dims a.d _ a.value.numbers.now _ _ c.blades.ensures c.read_all.ensures)
+    ∙ chosen (odd_of a.parity) a.lone a.value.dims a.d a.value.numbers.now a.out.now c.if-d-eq0.false

@@ -12,5 +12,5 @@ abbrev pub invariant-loop-g : goal.invariant-loop-g
 invariant-loop-g l = record {
   passed : l.i ≡ start l.dims l.g;
   put : l.k ≡ counted (odd_of l.parity) l.dims l.g;
-  filled : l.out ≡ laid (map (coef l.dims l.a) (choose (odd_of l.parity) (grades_below l.dims l.g))) l.initial.out;
+  filled : l.out ≡ laid (map (coef l.dims l.numbers) (choose (odd_of l.parity) (grades_below l.dims l.g))) l.initial.out;
 }

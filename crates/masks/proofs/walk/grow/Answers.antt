@@ -72,31 +72,31 @@ module _ {d n last low k x i e : ℕ} (w : Walking d n last low k x i e) (h : k 
 
 pub loop-k-init : goal.loop-k-init
 loop-k-init c =
-    let f = coef c.args.dims c.args.a.now in
+    let f = coef c.args.value.dims c.args.value.numbers.now in
     let n = c.args.n in (
-      walking_first c.args.dims n (c.blades-last.result - 1) c.bit-low.result c.blades-end.result c.requires.0 c.requires.1 (omega (arith, c.blades-last.ensures, pow_pos n)) c.bit-low.ensures c.blades-end.ensures,
+      walking_first c.args.value.dims n (c.blades-last.result - 1) c.bit-low.result c.blades-end.result c.requires.0 c.requires.1 (omega (arith, c.blades-last.ensures, pow_pos n)) c.bit-low.ensures c.blades-end.ensures,
       filled_none (map f (order n)) c.args.out.now (2 ^ n - 0) (omega (arith, ordered_length f n)) (omega (arith, ordered_length f n)),
     )
 
 -- ---- from the front
-pub offset_bounds-a-i : goal.offset_bounds-a-i
-offset_bounds-a-i c =
-    omega (arith, taken c.loop-k.invariant.0 (omega (arith, c.loop-k-test.true)) c.if-x-low-eq0.true, walking_small c.loop-k.invariant.0, c.loop-k.invariant.0.less)
+pub offset_bounds-numbers-i : goal.offset_bounds-numbers-i
+offset_bounds-numbers-i c =
+    omega (arith, taken c.loop-k.invariant.0 (omega (arith, c.loop-k-test.true)) c.if-x-low-eq0.true, walking_small c.loop-k.invariant.0, c.loop-k.invariant.0.less, c.args.value.counted)
 
-pub bounds-a-i : goal.bounds-a-i
-bounds-a-i c = omega (arith, taken c.loop-k.invariant.0 (omega (arith, c.loop-k-test.true)) c.if-x-low-eq0.true)
+pub bounds-numbers-i : goal.bounds-numbers-i
+bounds-numbers-i c = omega (arith, taken c.loop-k.invariant.0 (omega (arith, c.loop-k-test.true)) c.if-x-low-eq0.true, c.args.value.counted)
 
 pub overflow_add-i : goal.overflow_add-i
 overflow_add-i c = omega (arith, taken c.loop-k.invariant.0 (omega (arith, c.loop-k-test.true)) c.if-x-low-eq0.true)
 
 -- whether one is taken or not
-front_done : (c : Joined-x-low-eq0) → FrontDone c.loop-k.invariant.0 (omega (arith, c.loop-k-test.true)) c.args.a.now c.args.out.now c.loop-k.out c.loop-k.invariant.1 c.if-x-low-eq0.out c.if-x-low-eq0.i
+front_done : (c : Joined-x-low-eq0) → FrontDone c.loop-k.invariant.0 (omega (arith, c.loop-k-test.true)) c.args.value.numbers.now c.args.out.now c.loop-k.out c.loop-k.invariant.1 c.if-x-low-eq0.out c.if-x-low-eq0.i
 unfolding of_bits of_fields
 front_done c =
     let h : c.loop-k.k + c.loop-k.k < c.blades-last.result - 1 = omega (arith, c.loop-k-test.true) in
     elim c.if-x-low-eq0.branch [
-      | then-x-low-eq0 v ↦ rw (v.out-is, v.i-is) (front_taken c.loop-k.invariant.0 h c.args.a.now c.args.out.now c.loop-k.out c.loop-k.invariant.1 v.if-x-low-eq0.true)
-      | else-x-low-eq0 v ↦ rw (v.out-is, v.i-is) (front_left c.loop-k.invariant.0 h c.args.a.now c.args.out.now c.loop-k.out c.loop-k.invariant.1 v.if-x-low-eq0.false)
+      | then-x-low-eq0 v ↦ rw (v.out-is, v.i-is) (front_taken c.loop-k.invariant.0 h c.args.value.numbers.now c.args.out.now c.loop-k.out c.loop-k.invariant.1 v.if-x-low-eq0.true)
+      | else-x-low-eq0 v ↦ rw (v.out-is, v.i-is) (front_left c.loop-k.invariant.0 h c.args.value.numbers.now c.args.out.now c.loop-k.out c.loop-k.invariant.1 v.if-x-low-eq0.false)
     ]
 
 -- ---- from the back
@@ -106,11 +106,11 @@ overflow_sub-last-in-loop-k c = omega (arith, not_last c.loop-k.invariant.0 (ome
 pub overflow_sub-end : goal.overflow_sub-end
 overflow_sub-end c = omega (arith, taken_back c.loop-k.invariant.0 (omega (arith, c.loop-k-test.true)) c.if-last-x-eq0.true)
 
-pub offset_bounds-a-end : goal.offset_bounds-a-end
-offset_bounds-a-end c = omega (arith, taken_back c.loop-k.invariant.0 (omega (arith, c.loop-k-test.true)) c.if-last-x-eq0.true)
+pub offset_bounds-numbers-end : goal.offset_bounds-numbers-end
+offset_bounds-numbers-end c = omega (arith, taken_back c.loop-k.invariant.0 (omega (arith, c.loop-k-test.true)) c.if-last-x-eq0.true, c.args.value.counted)
 
-pub bounds-a-end : goal.bounds-a-end
-bounds-a-end c = omega (arith, taken_back c.loop-k.invariant.0 (omega (arith, c.loop-k-test.true)) c.if-last-x-eq0.true)
+pub bounds-numbers-end : goal.bounds-numbers-end
+bounds-numbers-end c = omega (arith, taken_back c.loop-k.invariant.0 (omega (arith, c.loop-k-test.true)) c.if-last-x-eq0.true, c.args.value.counted)
 
 -- ---- one place on
 pub next_backwards-x-requires : goal.next_backwards-x-requires
@@ -124,14 +124,14 @@ loop-k-preserved c =
     let f = front_done (goal.at.loop-k-preserved c).Joined-x-low-eq0 in
     elim c.if-last-x-eq0.branch [
       | then-last-x-eq0 v ↦
-          let b = back_taken w h c.args.a.now c.args.out.now c.if-x-low-eq0.out f.0 v.if-last-x-eq0.true in
+          let b = back_taken w h c.args.value.numbers.now c.args.out.now c.if-x-low-eq0.out f.0 v.if-last-x-eq0.true in
           rw (v.out-is, v.end-is) (walking_next w h _ _ _ c.next_backwards-x.ensures f.1 b.1, b.0)
       | else-last-x-eq0 v ↦
-          let b = back_left w h c.args.a.now c.args.out.now c.if-x-low-eq0.out f.0 v.if-last-x-eq0.false in
+          let b = back_left w h c.args.value.numbers.now c.args.out.now c.if-x-low-eq0.out f.0 v.if-last-x-eq0.false in
           rw (v.out-is, v.end-is) (walking_next w h _ _ _ c.next_backwards-x.ensures f.1 b.1, b.0)
     ]
 
 pub returns : goal.returns
 returns c =
-    let xs = map (coef c.args.dims c.args.a.now) (order c.args.n) in
+    let xs = map (coef c.args.value.dims c.args.value.numbers.now) (order c.args.n) in
     filled_all xs c.args.out.now c.loop-k.out c.loop-k.k (2 ^ c.args.n - c.loop-k.k) (walking_done c.loop-k.invariant.0 (omega (arith, c.loop-k-test.false))) c.loop-k.invariant.1

@@ -64,9 +64,9 @@ module _ {d n last low k x i e : ℕ} (w : Walking d n last low k x i e) (h : k 
 pub loop-k-init : goal.loop-k-init
 loop-k-init c =
     let d = c.args.dims in
-    let n = c.args.n in
-    let f = coef n c.args.a.now in (
-      walking_first d n (c.blades-last.result - 1) c.bit-low.result c.blades-end.result c.requires.0 c.requires.1 (omega (arith, c.blades-last.ensures, pow_pos n)) c.bit-low.ensures c.blades-end.ensures,
+    let n = c.args.value.dims in
+    let f = coef n c.args.value.numbers.now in (
+      walking_first d n (c.blades-last.result - 1) c.bit-low.result c.blades-end.result c.requires.0 c.args.value.small (omega (arith, c.blades-last.ensures, pow_pos n)) c.bit-low.ensures c.blades-end.ensures,
       filled_none (map f (order d)) c.args.out.now c.blades-end.result (omega (arith, ordered_length f d)) (c.blades-end.ensures ∙ sym (ordered_length f d)),
     )
 
@@ -81,13 +81,13 @@ pub overflow_add-at : goal.overflow_add-at
 overflow_add-at c = omega (arith, kept_fits c.loop-k.invariant.0 (omega (arith, c.loop-k-test.true)) c.if-x-low-eq0.true, blades_le c.args.dims (omega arith))
 
 -- whether it is kept or not
-front_done : (c : Joined-x-low-eq0) → FrontDone c.loop-k.invariant.0 (omega (arith, c.loop-k-test.true)) c.args.a.now c.args.out.now c.loop-k.out c.loop-k.invariant.1 c.if-x-low-eq0.out c.if-x-low-eq0.at
+front_done : (c : Joined-x-low-eq0) → FrontDone c.loop-k.invariant.0 (omega (arith, c.loop-k-test.true)) c.args.value.numbers.now c.args.out.now c.loop-k.out c.loop-k.invariant.1 c.if-x-low-eq0.out c.if-x-low-eq0.at
 front_done c =
     let w = c.loop-k.invariant.0 in
     let h : c.loop-k.k + c.loop-k.k < c.blades-last.result - 1 = omega (arith, c.loop-k-test.true) in
     elim c.if-x-low-eq0.branch [
-      | then-x-low-eq0 v ↦ rw (v.out-is, v.at-is) (front_taken w h c.args.a.now c.args.out.now c.loop-k.out c.loop-k.invariant.1 v.if-x-low-eq0.true)
-      | else-x-low-eq0 v ↦ rw (v.out-is, v.at-is) (front_left w h c.args.a.now c.args.out.now c.loop-k.out c.loop-k.invariant.1 v.if-x-low-eq0.false)
+      | then-x-low-eq0 v ↦ rw (v.out-is, v.at-is) (front_taken w h c.args.value.numbers.now c.args.out.now c.loop-k.out c.loop-k.invariant.1 v.if-x-low-eq0.true)
+      | else-x-low-eq0 v ↦ rw (v.out-is, v.at-is) (front_left w h c.args.value.numbers.now c.args.out.now c.loop-k.out c.loop-k.invariant.1 v.if-x-low-eq0.false)
     ]
 
 -- ---- from the back
@@ -105,7 +105,7 @@ bounds-out-end c = omega (arith, kept_back c.loop-k.invariant.0 (omega (arith, c
 
 -- ---- one place on
 pub next_backwards-x-requires : goal.next_backwards-x-requires
-next_backwards-x-requires c = (c.requires.1, not_last c.loop-k.invariant.0 (omega (arith, c.loop-k-test.true)))
+next_backwards-x-requires c = (c.args.value.small, not_last c.loop-k.invariant.0 (omega (arith, c.loop-k-test.true)))
 
 pub loop-k-preserved : goal.loop-k-preserved
 loop-k-preserved c =
@@ -114,14 +114,14 @@ loop-k-preserved c =
     let f = front_done (goal.at.loop-k-preserved c).Joined-x-low-eq0 in
     elim c.if-last-x-eq0.branch [
       | then-last-x-eq0 v ↦
-          let b = back_taken w h c.args.a.now c.args.out.now c.if-x-low-eq0.out c.if-x-low-eq0.at f.0 v.if-last-x-eq0.true in
+          let b = back_taken w h c.args.value.numbers.now c.args.out.now c.if-x-low-eq0.out c.if-x-low-eq0.at f.0 v.if-last-x-eq0.true in
           rw (v.out-is, v.end-is) (walking_next w h _ _ _ c.next_backwards-x.ensures f.1 b.1, b.0)
       | else-last-x-eq0 v ↦
-          let b = back_left w h c.args.a.now c.args.out.now c.if-x-low-eq0.out c.if-x-low-eq0.at f.0 v.if-last-x-eq0.false in
+          let b = back_left w h c.args.value.numbers.now c.args.out.now c.if-x-low-eq0.out c.if-x-low-eq0.at f.0 v.if-last-x-eq0.false in
           rw (v.out-is, v.end-is) (walking_next w h _ _ _ c.next_backwards-x.ensures f.1 b.1, b.0)
     ]
 
 pub returns : goal.returns
 returns c =
-    let xs = map (coef c.args.n c.args.a.now) (order c.args.dims) in
+    let xs = map (coef c.args.value.dims c.args.value.numbers.now) (order c.args.dims) in
     filled_all xs c.args.out.now c.loop-k.out c.loop-k.at c.loop-k.end (walking_met c.loop-k.invariant.0 (omega (arith, c.loop-k-test.false))) c.loop-k.invariant.1

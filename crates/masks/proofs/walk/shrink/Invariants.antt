@@ -7,4 +7,4 @@ use Rattle.masks.proofs.WalkLaws.{Walking}
 use Rattle.masks.proofs.walk.shrink.Given as goal
 
 abbrev pub invariant-loop-k : goal.invariant-loop-k
-invariant-loop-k l = Walking l.dims l.n l.last l.low l.k l.x l.at l.end × Filled nan (map (coef l.n l.a) (order l.dims)) l.initial.out l.out l.at l.end
+invariant-loop-k l = Walking l.dims l.n l.last l.low l.k l.x l.at l.end × Filled nan (map (coef l.n l.numbers) (order l.dims)) l.initial.out l.out l.at l.end

@@ -25,8 +25,7 @@ loop-m-init c =
     let a = c.args in
     let s = a.sums.now in
     record {
-      same_reference = refl;
-      kept = (refl, refl);
+      kept = (refl, refl, refl);
       added = sym (pairs_none a.blade a.y s.am.now s.dims c.requires s.acc.now s.sized (λ k. ltb k 0) (λ k l. le-ltb k 0 (omega arith)));
     }
 
@@ -39,11 +38,10 @@ loop-m-preserved c =
     let e = c.add_pair.ensures in
     let low : m < 2 ^ s.dims = omega (arith, s.sized) in
     record {
-      same_reference = e.same_reference ∙ i.same_reference;
-      kept = (e.kept.0 ∙ i.kept.0, e.kept.1 ∙ i.kept.1);
+      kept = (e.kept.0 ∙ i.kept.0, e.kept.1 ∙ i.kept.1, e.kept.2 ∙ i.kept.2);
       added =
           e.added
-          ∙ ap₂ (λ (u v : List Float). with_pair m a.blade a.y u v) (ap (λ (u : Bor (List Float)). u.now) i.kept.1) i.added
+          ∙ ap₂ (λ (u v : List Float). with_pair m a.blade a.y u v) (ap (λ (u : Bor (List Float)). u.now) i.kept.2) i.added
           ∙ pairs_more a.blade a.y s.am.now s.dims c.requires s.acc.now s.sized (λ k. ltb k m) (λ k. ltb k (m + 1)) m low
           (le-ltb m m (omega arith)) (λ k h. below_more m k);
     }

@@ -3,15 +3,11 @@ use Prim.Native.Nat.{◌-◌}
 use native.Mathlib.Omega.{arith}
 use lib.Bits.{bit_and}
 use lib.ListN.{length}
-use Rattle.masks.proofs.OrderLaws.{blades_le}
 use Rattle.product.specs.inner.Sums.{subset_from, beyond}
 use Rattle.product.proofs.Subsets.{and_twice}
 use Rattle.product.proofs.SumsPairs.{pairs_ext, pairs_none}
 use Rattle.product.proofs.SumsTests.{free_of, free_lt, free_add, free_apart, beyond_none, beyond_test}
 use Rattle.product.proofs.sums.add_beyond.Goals as goal
-
-pub overflow_cast-n : goal.overflow_cast-n
-overflow_cast-n c = let s = c.args.sums.now in omega (arith, s.sized, blades_le s.dims s.few)
 
 pub overflow_sub-n : goal.overflow_sub-n
 overflow_sub-n c = let s = c.args.sums.now in omega (arith, s.sized, free_lt s.dims (length s.acc.now) s.sized c.args.blade.mask c.requires)

@@ -10,7 +10,6 @@ use lib.ListN.{length}
 use borrow.Author.Tests.{eq-eqb}
 use Rattle.std.proofs.Common.{Bor}
 use Rattle.clifford.specs.Pairs.{within}
-use Rattle.masks.proofs.OrderLaws.{blades_le}
 use Rattle.product.specs.declared.mode.Mode.{Mode}
 use Rattle.product.specs.declared.mode.Mode.TheVariants.{All, Left, Right, Inner, Outer}
 use Rattle.product.specs.Mode.{takes}
@@ -75,23 +74,11 @@ module _ (s : Start) where
   right_asked : (b + bit_xor (n - 1) b < 2 ^ d) × (bit_and b (bit_xor (n - 1) b) ≡ 0) × (bit_and 0 (bit_xor (n - 1) b) ≡ 0)
   right_asked = (free_add d n size b b_lt, free_apart d n size b b_lt, and_zero_l (bit_xor (n - 1) b))
 
-pub overflow_cast-full : goal.overflow_cast-full
-overflow_cast-full c = let s = c.args.sums.now in omega (arith, s.sized, blades_le s.dims s.few)
-
 pub add_subsets-requires-clause-free_bound : goal.add_subsets-requires-clause-free_bound
 add_subsets-requires-clause-free_bound c = all_asked (goal.at.add_subsets-requires-clause-free_bound c).Start
 
--- Either base may be asked of.
-pub add_subsets-requires-in-Left-clause-free_bound : goal.add_subsets-requires-in-Left-clause-free_bound
-add_subsets-requires-in-Left-clause-free_bound c =
-    let s = (goal.at.add_subsets-requires-in-Left-clause-free_bound c).Start in
-    assumption (left_asked s, right_asked s)
-
 pub add_subsets-requires-then-null-eq0-2-clause-free_bound : goal.add_subsets-requires-then-null-eq0-2-clause-free_bound
 add_subsets-requires-then-null-eq0-2-clause-free_bound c = right_asked (goal.at.add_subsets-requires-then-null-eq0-2-clause-free_bound c).Start
-
-pub add_subsets-requires-in-Inner-clause-free_bound : goal.add_subsets-requires-in-Inner-clause-free_bound
-add_subsets-requires-in-Inner-clause-free_bound c = left_asked (goal.at.add_subsets-requires-in-Inner-clause-free_bound c).Start
 
 pub add_subsets-requires-in-Outer-clause-free_bound : goal.add_subsets-requires-in-Outer-clause-free_bound
 add_subsets-requires-in-Outer-clause-free_bound c = all_asked (goal.at.add_subsets-requires-in-Outer-clause-free_bound c).Start
@@ -149,7 +136,7 @@ returns-then-null-eq0-3-clause-added c =
     by_mode s Inner (λ m. t m || beyond (b s) m) _ c.in-Inner.is
     (λ m h. inner_both (d s) (b s) (null s) (b_lt s) (inside s) m c.if-null-eq0-3.true)
     (c.add_beyond.ensures.added
-    ∙ ap₂ (λ (u v : List Float). with_pairs (beyond (b s)) a.blade a.y u v) (ap (λ (u : Bor (List Float)). u.now) c.add_subsets-in-Inner.ensures.kept.1)
+    ∙ ap₂ (λ (u v : List Float). with_pairs (beyond (b s)) a.blade a.y u v) (ap (λ (u : Bor (List Float)). u.now) c.add_subsets-in-Inner.ensures.kept.2)
     c.add_subsets-in-Inner.ensures.added
     ∙ pairs_both a.blade a.y a.sums.now.am.now (d s) (b_lt s) a.sums.now.acc.now (size s) t (beyond (b s))
     (λ m h. inner_apart (d s) (b s) (null s) (b_lt s) (inside s) m))

@@ -17,7 +17,7 @@ low c = omega (arith, c.mask_at-m.ensures, plan_low c.args.plan c.loop-j.j)
 
 pub loop-j-init : goal.loop-j-init
 unfolding rows_below
-loop-j-init c = record { same_reference = refl; kept = (refl, refl); added = c.requires.2 }
+loop-j-init c = record { kept = (refl, refl, refl); added = c.requires.2 }
 
 pub blade_of-requires : goal.blade_of-requires
 blade_of-requires c =
@@ -27,7 +27,7 @@ blade_of-requires c =
 pub add_blade-requires-clause-mask_bound : goal.add_blade-requires-clause-mask_bound
 add_blade-requires-clause-mask_bound c =
     let s = (goal.at.add_blade-requires-clause-mask_bound c).After-mask_at-m in
-    rw (blade_mask c.blade_of.result c.args.squares c.mask_at-m.result c.blade_of.ensures, c.loop-j.invariant.kept.0) (low s)
+    rw (blade_mask c.blade_of.result c.args.squares c.mask_at-m.result c.blade_of.ensures, c.loop-j.invariant.kept.1) (low s)
 
 pub add_blade-requires-clause-null_value : goal.add_blade-requires-clause-null_value
 add_blade-requires-clause-null_value c = blade_null c.blade_of.result c.args.squares c.mask_at-m.result c.blade_of.ensures
@@ -40,12 +40,11 @@ loop-j-preserved c =
     let m = c.mask_at-m in
     let b = c.blade_of.result in
     record {
-      same_reference = e.same_reference ∙ i.same_reference;
-      kept = (e.kept.0 ∙ i.kept.0, e.kept.1 ∙ i.kept.1);
+      kept = (e.kept.0 ∙ i.kept.0, e.kept.1 ∙ i.kept.1, e.kept.2 ∙ i.kept.2);
       added =
           rows_next (2 ^ a.plan.shape.dims) (plan_mask a.plan) a.turn a.plan.mode a.squares a.am.now a.b.now c.loop-j.j m.result b _ c.loop-j.sums.acc.now _
           m.ensures c.blade_of.ensures c.turned_number-y.ensures i.added
-          (e.added ∙ ap (λ (u : Bor (List Float)). with_pairs (meets a.plan.mode b) b c.turned_number-y.result u.now c.loop-j.sums.acc.now) i.kept.1);
+          (e.added ∙ ap (λ (u : Bor (List Float)). with_pairs (meets a.plan.mode b) b c.turned_number-y.result u.now c.loop-j.sums.acc.now) i.kept.2);
     }
 
 pub returns : goal.returns
@@ -54,5 +53,5 @@ returns c =
     let i = c.loop-j.invariant in
     let e : c.loop-j.j ≡ 2 ^ a.plan.shape.dims = omega (arith, c.requires.0) in
     let p = i.added ∙ ap (λ (n : ℕ). rows_below (2 ^ a.plan.shape.dims) (plan_mask a.plan) a.turn a.plan.mode a.squares a.am.now a.b.now n) e in
-    let same = sym i.same_reference in
+    let same = sym i.kept.0 in
     search (rules, p, same)

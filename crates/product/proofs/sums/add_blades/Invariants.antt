@@ -1,14 +1,13 @@
 use mathlib.Core.Path.{◌≡◌}
 use Prim.Native.Nat.{◌^◌}
 use Rattle.product.specs.inner.Sums.{rows_below}
-use Rattle.product.specs.inner.Plan.{plan_mask}
+use Rattle.product.specs.inner.Plan.{plan_mask, Kept}
 use Rattle.product.proofs.sums.add_blades.Given as goal
 
 abbrev pub invariant-loop-j : goal.invariant-loop-j
 invariant-loop-j l =
     let s = l.initial.sums in
     record {
-      same_reference : l.sums.acc.ghost_name ≡ s.acc.ghost_name;
-      kept : (l.sums.dims ≡ s.dims) × (l.sums.am ≡ s.am);
+      kept : Kept s l.sums;
       added : l.sums.acc.now ≡ rows_below (2 ^ l.plan.shape.dims) (plan_mask l.plan) l.turn l.plan.mode l.squares s.am.now l.b l.j;
     }

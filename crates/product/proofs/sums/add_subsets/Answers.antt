@@ -52,7 +52,7 @@ taken_in c w u e more =
     ap (λ (q : ℕ). subset_from a.base a.free a.from (a.base + t) && ltb q t) (subset_free s.dims a.base a.free c.requires.free_bound.0 c.requires.free_bound.1 t c.loop-s.invariant.subset)
     ∙ ap (λ x. subset_from a.base a.free a.from (a.base + t) && x) (le-ltb t t (omega arith)) ∙ and-false (subset_from a.base a.free a.from (a.base + t))
     in
-    e ∙ ap₂ (λ (x y : List Float). with_pair (a.base + t) a.blade a.y x y) (ap (λ (x : Bor (List Float)). x.now) c.loop-s.invariant.kept.1) c.loop-s.invariant.added
+    e ∙ ap₂ (λ (x y : List Float). with_pair (a.base + t) a.blade a.y x y) (ap (λ (x : Bor (List Float)). x.now) c.loop-s.invariant.kept.2) c.loop-s.invariant.added
     ∙ pairs_more a.blade a.y s.am.now s.dims c.requires.mask_bound s.acc.now s.sized test u (a.base + t) (mask_lt c) own more
 
 -- Where another subset is next, it comes after s, with none between the two.
@@ -66,9 +66,6 @@ module _ (c : Else-s-eq0) where
   rises : c.loop-s.s < next
   rises = next_rises c.args.sums.now.dims c.args.free c.loop-s.s (omega arith) c.loop-s.invariant.subset (λ e. c.if-s-eq0.false (same ∙ e))
 
-pub overflow_cast-step : goal.overflow_cast-step
-overflow_cast-step c = let s = c.args.sums.now in omega (arith, s.sized, blades_le s.dims s.few)
-
 pub loop-s-init : goal.loop-s-init
 loop-s-init c =
     let a = c.args in
@@ -76,8 +73,7 @@ loop-s-init c =
     record {
       subset = c.requires.free_bound.2;
       later = omega arith;
-      same_reference = refl;
-      kept = (refl, refl);
+      kept = (refl, refl, refl);
       added = sym (pairs_none a.blade a.y s.am.now s.dims c.requires.mask_bound s.acc.now s.sized (before a.base a.free a.from a.from)
           (λ m l. none_before a.base a.free a.from m));
     }
@@ -88,7 +84,7 @@ overflow_add-base c = omega (arith, mask_lt (goal.at.overflow_add-base c).At-loo
 pub add_pair-requires : goal.add_pair-requires
 add_pair-requires c =
     let low = mask_lt (goal.at.add_pair-requires c).At-loop-s in
-    let e = c.loop-s.invariant.kept.0 in
+    let e = c.loop-s.invariant.kept.1 in
     (rw e low, rw e c.requires.mask_bound, refl)
 
 pub overflow_add-s : goal.overflow_add-s
@@ -120,8 +116,7 @@ loop-s-preserved c =
     record {
       subset = and_twice (t + (length a.sums.now.acc.now - a.free)) a.free;
       later = omega (arith, same c, rises c);
-      same_reference = e.same_reference ∙ i.same_reference;
-      kept = (e.kept.0 ∙ i.kept.0, e.kept.1 ∙ i.kept.1);
+      kept = (e.kept.0 ∙ i.kept.0, e.kept.1 ∙ i.kept.1, e.kept.2 ∙ i.kept.2);
       added = taken_in (goal.at.loop-s-preserved c).At-loop-s c.add_pair.new.sums.acc.now _ e.added
           (λ k h. subset_more d a.base a.free c.requires.free_bound.0 c.requires.free_bound.1 t i.subset a.from i.later k _
           (ap (ltb (bit_and k a.free)) (same c)

@@ -4,6 +4,7 @@ use Prim.Native.Nat.{ℕ, ◌-◌, ◌≤◌}
 use lib.Bits.{bit_and}
 use lib.Dec.{ltb}
 use Rattle.product.specs.inner.Sums.{with_pairs, subset_from}
+use Rattle.product.specs.inner.Plan.{Kept}
 use Rattle.product.proofs.sums.add_subsets.Given as goal
 
 -- A mask that passes has a subset before s.
@@ -16,8 +17,7 @@ invariant-loop-s l =
     record {
       subset : bit_and l.s l.free ≡ l.s;
       later : l.from ≤ l.s;
-      same_reference : l.sums.acc.ghost_name ≡ s.acc.ghost_name;
-      kept : (l.sums.dims ≡ s.dims) × (l.sums.am ≡ s.am);
+      kept : Kept s l.sums;
       added : l.sums.acc.now ≡ with_pairs (before l.base l.free l.from l.s) l.blade l.y s.am.now s.acc.now;
     }
 

@@ -1,23 +1,13 @@
 use mathlib.Core.Path.{ap, ◌∙◌}
 use mathlib.Core.List.{List}
 use Prim.Native.Nat.{◌^◌}
-use lib.Ieee.{Float, binary64, sub, neg}
+use lib.Ieee.{Float, binary64, sub}
 use Rattle.masks.specs.Outcome.{laid, nought}
 use Rattle.product.specs.inner.Metric.{squares_below}
 use Rattle.product.specs.inner.Plan.{plan_mask, taken_by}
-use Rattle.product.proofs.ListLaws.{places_length}
-use Rattle.product.proofs.SumsPlaces.{turned_length, turned_sums, rows_length, plan_low}
+use Rattle.product.proofs.SumsPlaces.{turned_sums, plan_low}
 use Rattle.product.proofs.SumsLaws.{rows_product}
 use Rattle.product.proofs.sums.fill_by.Goals as goal
-
-pub add_blades-requires : goal.add_blades-requires
-add_blades-requires c =
-    let n = c.args.plan.shape.dims in
-    (c.requires.a_len.1, turned_length neg c.turned_mask-turn.result (2 ^ n) _ _ _ c.lay_out.ensures.am_after (places_length (2 ^ n) _) c.turn_in.ensures, c.requires.am_value.1)
-
-pub take_back-requires : goal.take_back-requires
-take_back-requires c =
-    (turned_length (sub binary64 nought) c.turned_mask-turn.result (2 ^ c.args.plan.shape.dims) _ _ _ c.add_blades.ensures (rows_length _ _ _ _ _ _ _ _) c.turn_out.ensures, c.requires.a_len.2)
 
 pub returns : goal.returns
 returns c =

@@ -3,7 +3,9 @@ use mathlib.Core.Bool.{true, false}
 use mathlib.Core.List.{List, []}
 use Prim.Native.Nat.{ℕ, ◌+◌, ◌*◌, ◌/◌, ◌≤◌, ◌<◌}
 use native.Mathlib.Omega.{arith}
+use lib.Ieee.{Float}
 use lib.ListN.{length, get_or}
+use denote.Ref.{MutBor}
 use Rattle.std.specs.Prelude.{Option, None, Some, is_some, unwrap_or}
 use Rattle.masks.specs.declared.shape.Shape.{Shape}
 use Rattle.masks.specs.Outcome.{refusal}
@@ -115,7 +117,7 @@ module _ (c : After-take_turn) (w : Known c.args.sheet.now c.args.log.now c.list
       held_read b w.sheet c.listed-listed.result.now w.same c.from-k.result (index_inside w m) _ c.loop-steps.held c.put_named.new.out (c.put_starts.ensures c.from-k.result (index_listed w m)) (rw t at c.put_named.ensures)
       ∙ ap (sheet_value (said b)) m.names_it
 
-  turned : Turned (said b) (steps_of c.args.log.now) c.loop-steps.turned c.loop-steps.shape c.loop-steps.x c.loop-steps.y c.loop-steps.steps c.take_turn.result c.take_turn.new.x c.take_turn.new.y
+  turned : Turned (said b) (steps_of c.args.log.now) c.loop-steps.shape c.loop-steps.pose.now c.loop-steps.next.now c.loop-steps.steps c.take_turn.result c.take_turn.new.next
   turned =
       record {
         posed = c.loop-steps.invariant.0;
@@ -123,10 +125,8 @@ module _ (c : After-take_turn) (w : Known c.args.sheet.now c.args.log.now c.list
         step = step;
         there = step_is w m;
         meant = value_is b w.sheet (named (Some step)) (inside w m);
-        tried = tried_named read_is c.take_turn.ensures.0;
-        kept = c.take_turn.ensures.1;
-        wide = c.take_turn.auto.x ∙ c.loop-steps.invariant.0.wide;
-        wide_other = c.take_turn.auto.y ∙ c.loop-steps.invariant.0.wide_other;
+        tried = tried_named read_is c.take_turn.ensures;
+        wide = c.take_turn.auto.next ∙ c.loop-steps.invariant.1;
       }
 
 -- value 0's patterns are the first
@@ -163,7 +163,7 @@ loop-steps-init c =
     let v = c.put_value in
     let small = held_dims b w.sheet ss w.same 0 (fit w).some in
     let r = held_read b w.sheet ss w.same 0 (fit w).some 0 _ v.new.out refl (rw (none_counted c.blades_or_none.ensures small) at v.ensures) in
-    (begins small v.auto.out refl r, refl, refl)
+    (begins small v.auto.out r, refl, refl, refl)
 
 pub unwrap-step-requires : goal.unwrap-step-requires
 unwrap-step-requires c =
@@ -195,7 +195,7 @@ put_named-requires c =
       few w,
       rw start (held_few b w.sheet ss w.same k (index_inside w m)),
       rw start (held_inside b w.sheet ss w.same k (index_inside w m)),
-      omega (arith, c.loop-steps.invariant.1, blades_le _ small),
+      omega (arith, c.loop-steps.invariant.2, blades_le _ small),
     )
 
 pub take_turn-requires : goal.take_turn-requires
@@ -204,35 +204,38 @@ take_turn-requires c =
     let w = known at.After-listed-listed in
     let i = c.loop-steps.invariant in
     let small = held_dims c.args.sheet.now w.sheet c.listed-listed.result.now w.same c.from-k.result (index_inside w (naming at.After-from-k)) in
-    (i.0.small, small, c.put_named.auto.out ∙ i.1, i.0.wide, i.0.wide_other)
+    (i.0.small, small, i.0.wide, c.put_named.auto.out ∙ i.2, i.1)
 
 pub returns-in-Err : goal.returns-in-Err
 returns-in-Err c =
     let at = goal.at.returns-in-Err c in
     let t = turned at.After-take_turn (known at.After-listed-listed) (naming at.After-from-k) in
-    ended refl (refused_ends t c.in-Err.refusal c.in-Err.is) c.loop-steps.invariant.2 c.finish.ensures
+    ended refl (refused_ends t c.in-Err.refusal c.in-Err.is) c.loop-steps.invariant.3 c.finish.ensures
 
 pub finish-requires-then-tried : goal.finish-requires-then-tried
 finish-requires-then-tried c =
     let at = goal.at.finish-requires-then-tried c in
     let t = turned at.After-take_turn (known at.After-listed-listed) (naming at.After-from-k) in
-    ended_wide c.loop-steps.out (halted_ends t c.in-Ok.tried c.in-Ok.is c.if-tried.true) (omega (arith, c.requires.3, ap length c.loop-steps.invariant.2))
+    let s : c.swap.new.x.now ≡ c.take_turn.new.next = ap (λ (b : MutBor (List Float)). b.now) c.swap.ensures.x_after in
+    rw s (ended_wide c.loop-steps.out (halted_ends t c.in-Ok.tried c.in-Ok.is c.if-tried.true) (omega (arith, c.requires.3, ap length c.loop-steps.invariant.3)))
 
 pub returns-then-tried : goal.returns-then-tried
 returns-then-tried c =
     let at = goal.at.returns-then-tried c in
     let t = turned at.After-take_turn (known at.After-listed-listed) (naming at.After-from-k) in
-    ended refl (halted_ends t c.in-Ok.tried c.in-Ok.is c.if-tried.true) c.loop-steps.invariant.2 c.finish-then-tried.ensures
+    let s : c.swap.new.x.now ≡ c.take_turn.new.next = ap (λ (b : MutBor (List Float)). b.now) c.swap.ensures.x_after in
+    ended refl (halted_ends t c.in-Ok.tried c.in-Ok.is c.if-tried.true) c.loop-steps.invariant.3 (rw s at c.finish-then-tried.ensures)
 
 pub loop-steps-preserved : goal.loop-steps-preserved
 loop-steps-preserved c =
     let at = goal.at.loop-steps-preserved c in
     let t = turned at.After-take_turn (known at.After-listed-listed) (naming at.After-from-k) in
     let i = c.loop-steps.invariant in
-    (goes_on t c.in-Ok.tried c.in-Ok.is c.if-tried.false, c.put_named.auto.out ∙ i.1, i.2)
+    let s : c.swap.new.x.now ≡ c.take_turn.new.next = ap (λ (b : MutBor (List Float)). b.now) c.swap.ensures.x_after in
+    (rw s (goes_on t c.in-Ok.tried c.in-Ok.is c.if-tried.false), ap (λ (b : MutBor (List Float)). length b.now) c.swap.ensures.y_after ∙ i.0.wide, c.put_named.auto.out ∙ i.2, i.3)
 
 pub returns : goal.returns
 returns c =
     let w = known (goal.at.returns c).After-listed-listed in
     let n : length c.as_chunks.result.0.now ≡ c.loop-steps.steps = omega (arith, c.loop-steps-test.false) in
-    ended refl (log_ends c.loop-steps.invariant.0 (omega (arith, c.loop-steps-test.false, c.as_chunks.ensures.front_len, bytes w))) c.loop-steps.invariant.2 (rw n at c.finish-2.ensures)
+    ended refl (log_ends c.loop-steps.invariant.0 (omega (arith, c.loop-steps-test.false, c.as_chunks.ensures.front_len, bytes w))) c.loop-steps.invariant.3 (rw n at c.finish-2.ensures)

@@ -1,4 +1,4 @@
-use mathlib.Core.Path.{◌≡◌, refl, ◌∙◌}
+use mathlib.Core.Path.{◌≡◌, ◌∙◌}
 use mathlib.Core.List.{List}
 use Prim.Native.Nat.{ℕ, ◌-◌, ◌^◌, ◌≤◌}
 use native.Mathlib.Omega.{arith}
@@ -43,38 +43,21 @@ few c =
 -- So a value is at the front of the array that has its turn, and one at the front of the named numbers.
 fronts : (c : After-blades_or_none-m) (xs : List Float) → length xs ≡ 512 → let a = c.args in (length (take (c.blades_or_none-n.result - 0) xs) ≡ 2 ^ a.shape.dims) × (length (take (c.blades_or_none-m.result - 0) a.named.now) ≡ 2 ^ a.other.dims)
 fronts c xs l =
-    (front_length _ _ xs (counted c).0 (few c).0 l, front_length _ _ c.args.named.now (counted c).1 (few c).1 c.requires.2)
+    (front_length _ _ xs (counted c).0 (few c).0 l, front_length _ _ c.args.named.now (counted c).1 (few c).1 c.requires.3)
 
 pub slice_bounds-try_step-end : goal.slice_bounds-try_step-end
-slice_bounds-try_step-end c = omega (arith, (few (goal.at.slice_bounds-try_step-end c).After-blades_or_none-m).0, c.requires.4)
+slice_bounds-try_step-end c = omega (arith, (few (goal.at.slice_bounds-try_step-end c).After-blades_or_none-m).0, c.requires.2)
 
-pub slice_bounds-try_step-end-then-turned : goal.slice_bounds-try_step-end-then-turned
-slice_bounds-try_step-end-then-turned c = omega (arith, (few (goal.at.slice_bounds-try_step-end-then-turned c).After-blades_or_none-m).1, c.requires.2)
+pub slice_bounds-try_step-end-2 : goal.slice_bounds-try_step-end-2
+slice_bounds-try_step-end-2 c = omega (arith, (few (goal.at.slice_bounds-try_step-end-2 c).After-blades_or_none-m).1, c.requires.3)
 
 pub try_step-requires : goal.try_step-requires
 try_step-requires c =
     let p = c.requires in
-    let l = fronts (goal.at.try_step-requires c).After-blades_or_none-m c.args.y.now p.4 in
-    (p.0, l.0, p.3)
-
-pub returns-then-turned : goal.returns-then-turned
-returns-then-turned c =
-    let q = counted (goal.at.returns-then-turned c).After-blades_or_none-m in
-    rw c.if-turned.true (held_tries _ _ _ _ _ _ _ _ _ _ q.0 q.1 c.try_step.ensures, refl)
-
-pub slice_bounds-try_step-end-2 : goal.slice_bounds-try_step-end-2
-slice_bounds-try_step-end-2 c = omega (arith, (few (goal.at.slice_bounds-try_step-end-2 c).After-blades_or_none-m).0, c.requires.3)
-
-pub slice_bounds-try_step-end-3 : goal.slice_bounds-try_step-end-3
-slice_bounds-try_step-end-3 c = omega (arith, (few (goal.at.slice_bounds-try_step-end-3 c).After-blades_or_none-m).1, c.requires.2)
-
-pub try_step-requires-2 : goal.try_step-requires-2
-try_step-requires-2 c =
-    let p = c.requires in
-    let l = fronts (goal.at.try_step-requires-2 c).After-blades_or_none-m c.args.x.now p.3 in
+    let l = fronts (goal.at.try_step-requires c).After-blades_or_none-m c.args.pose.now p.2 in
     (p.0, l.0, p.4)
 
 pub returns : goal.returns
 returns c =
     let q = counted (goal.at.returns c).After-blades_or_none-m in
-    rw c.if-turned.false (held_tries _ _ _ _ _ _ _ _ _ _ q.0 q.1 c.try_step-2.ensures, refl)
+    held_tries _ _ _ _ _ _ _ _ _ _ q.0 q.1 c.try_step.ensures

@@ -42,12 +42,17 @@ returns-in_err-set_blade_refusal t c =
 pub blades-requires : goal.blades-requires
 blades-requires t c = (ok t (goal.at.blades-requires t c).In_ok-set_blade_refusal).small
 
+pub invariant_of-value : goal.invariant_of-value
+invariant_of-value t c =
+    let p = ok t (goal.at.invariant_of-value t c).In_ok-set_blade_refusal in
+    record { small = p.small; counted = p.counted }
+
 pub put_blade-requires : goal.put_blade-requires
 put_blade-requires t c =
     let a = c.args in
     let p = ok t (goal.at.put_blade-requires t c).In_ok-set_blade_refusal in
     let h : a.mask < 2 ^ a.self.dims = omega arith in
-    (p.small, h, p.counted, omega (arith, p.roomy, ap (λ n. 2 ^ n) (dims_here (9 - a.self.dims) a.self.dims a.mask h)))
+    (h, omega (arith, p.roomy, ap (λ n. 2 ^ n) (dims_here (9 - a.self.dims) a.self.dims a.mask h)))
 
 pub returns-then-mask-blades : goal.returns-then-mask-blades
 unfolding set_blade
@@ -58,11 +63,16 @@ returns-then-mask-blades t c =
     gives_done _ _ _ _ _ c.in_ok-set_blade_refusal.ensures.0 refl (ap (λ n. with_dims a.self n) (sym (dims_here k a.self.dims a.mask h)))
     (c.put_blade.ensures ∙ ap (λ xs. laid xs a.out.now) (sym (blade_here k a.self.dims a.mask a.x a.a.now h)))
 
+pub invariant_of-value-2 : goal.invariant_of-value-2
+invariant_of-value-2 t c =
+    let p = ok t (goal.at.invariant_of-value-2 t c).In_ok-set_blade_refusal in
+    record { small = p.small; counted = p.counted }
+
 pub resize-requires : goal.resize-requires
 resize-requires t c =
     let at = goal.at.resize-requires t c in
     let p = ok t at.In_ok-set_blade_refusal in
-    (p.small, omega (arith, more t at.Else-mask-blades p), p.counted, few t at.Else-mask-blades p)
+    (omega (arith, more t at.Else-mask-blades p), few t at.Else-mask-blades p)
 
 pub blades-count-requires : goal.blades-count-requires
 blades-count-requires t c =

@@ -62,17 +62,27 @@ returns-in_err-conform_refusal c =
     let f = c.in_err-conform_refusal in
     rw (p.1, p.2) (gives_both_refused _ f.field-0.0 _ _ _ (number (goal.at.returns-in_err-conform_refusal c).After-conform_refusal ∙ f.ensures))
 
+pub invariant_of-conform_by : goal.invariant_of-conform_by
+invariant_of-conform_by c =
+    let t = ok (goal.at.invariant_of-conform_by c).After-conform_refusal c.in_ok-conform_refusal.ensures.0 in
+    record { small = t.small; counted = t.counted }
+
 pub conform_by-requires : goal.conform_by-requires
 conform_by-requires c =
     let r = (goal.at.conform_by-requires c).After-conform_refusal in
     let t = ok r c.in_ok-conform_refusal.ensures.0 in
-    (few r, omega (arith, c.max-n.ensures, grown r t.small, t.result), t.result, t.counted, t.roomy)
+    (few r, omega (arith, c.max-n.ensures, grown r t.small, t.result), t.result, t.roomy)
+
+pub invariant_of-value_right : goal.invariant_of-value_right
+invariant_of-value_right c =
+    let t = ok (goal.at.invariant_of-value_right c).After-conform_refusal c.in_ok-conform_refusal.ensures.0 in
+    record { small = t.small_right; counted = t.counted_right }
 
 pub conform_by-requires-2 : goal.conform_by-requires-2
 conform_by-requires-2 c =
     let r = (goal.at.conform_by-requires-2 c).After-conform_refusal in
     let t = ok r c.in_ok-conform_refusal.ensures.0 in
-    (few_right r, omega (arith, c.max-n.ensures, grown_right r t.small_right, t.result), t.result, t.counted_right, t.roomy_right)
+    (few_right r, omega (arith, c.max-n.ensures, grown_right r t.small_right, t.result), t.result, t.roomy_right)
 
 pub returns : goal.returns
 unfolding conform

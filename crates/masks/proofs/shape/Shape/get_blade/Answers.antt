@@ -13,8 +13,8 @@ returns-in_err-value_refusal c =
     let f = c.in_err-value_refusal in
     rw (p.1, p.2) (answered_err (λ (o : Real). o.number) (λ (o : Real). o.value) refused_real _ _ f.field-0.0 refl f.ensures)
 
-pub coefficient-requires : goal.coefficient-requires
-coefficient-requires c = let v = (valued _ _ [] c.in_ok-value_refusal.ensures.0).0 in (v.small, v.counted)
+pub invariant_of-coefficient : goal.invariant_of-coefficient
+invariant_of-coefficient c = let v = (valued _ _ [] c.in_ok-value_refusal.ensures.0).0 in record { small = v.small; counted = v.counted }
 
 pub returns : goal.returns
 unfolding get_blade

@@ -41,13 +41,18 @@ returns-in_err-refusal_of c =
     let f = c.in_err-refusal_of in
     rw (p.1, p.2) (gives_refused _ f.field-0.0 _ _ (number (goal.at.returns-in_err-refusal_of c).After-refusal_of ∙ f.ensures))
 
+pub invariant_of-conform_by : goal.invariant_of-conform_by
+invariant_of-conform_by c =
+    let t = ok (goal.at.invariant_of-conform_by c).After-refusal_of c.in_ok-refusal_of.ensures.0 in
+    record { small = t.small; counted = t.counted }
+
 pub conform_by-requires : goal.conform_by-requires
 conform_by-requires c =
     let r = (goal.at.conform_by-requires c).After-refusal_of in
     let t = ok r c.in_ok-refusal_of.ensures.0 in
     let e = c.promotion-up.ensures in
     let n = same r t.small in
-    (few r, omega (arith, e, t.result), omega (arith, n, t.result), t.counted, omega (arith, ap (λ k. 2 ^ k) n, t.roomy))
+    (few r, omega (arith, e, t.result), omega (arith, n, t.result), omega (arith, ap (λ k. 2 ^ k) n, t.roomy))
 
 pub returns : goal.returns
 unfolding set_flavor
