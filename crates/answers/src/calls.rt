@@ -95,7 +95,18 @@ pub fn put<T: Copy + Into<f64>>(items: &[T], out: &mut [f64]) {
     }
 }
 
-// Whether the call of a line gives what the line says: words, and what the outputs hold. No call gives no words.
+// Whether a call answers the words that the line gives. No call answers none.
+fn is_answered(op: Option<Op>, call: &mut Call, line: &mut Words) -> bool {
+    match op {
+        Some(Op::Flavor(op)) => op.agrees(call, line),
+        Some(Op::Shape(op)) => op.agrees(call, line),
+        Some(Op::Product(op)) => op.agrees(call, line),
+        Some(Op::Value(op)) => op.agrees(call, line),
+        _ => line.says(&[]),
+    }
+}
+
+// Whether the call of a line gives what the line says: words, and what the outputs hold.
 pub fn agrees(op: Option<Op>, words: [u64; 16], given: usize, line: &mut Words) -> bool {
     let mut a_space = [0.0; 520];
     let mut b_space = [0.0; 520];
@@ -110,15 +121,9 @@ pub fn agrees(op: Option<Op>, words: [u64; 16], given: usize, line: &mut Words) 
         given,
         a,
         b,
-        out,
-        right,
+        out: &mut *out,
+        right: &mut *right,
     };
-    let said = match op {
-        Some(Op::Flavor(op)) => op.agrees(&mut call, line),
-        Some(Op::Shape(op)) => op.agrees(&mut call, line),
-        Some(Op::Product(op)) => op.agrees(&mut call, line),
-        Some(Op::Value(op)) => op.agrees(&mut call, line),
-        _ => line.says(&[]),
-    };
-    said && line.gives(call.out) && line.gives(call.right)
+    let answered = is_answered(op, &mut call, line);
+    answered && line.gives(out) && line.gives(right)
 }

@@ -3,9 +3,9 @@ use super::calls::{Call, NoCall, put};
 use super::shapes::{flavor_words, parts, shape_words};
 use super::words::{Words, byte};
 use masks::flavor::{Flavor, Metric, null_flavor};
+use masks::order;
 use masks::outcome::{pair_refusal, refusal_of, shape_of, value_refusal};
 use masks::shape::promotion;
-use masks::order;
 
 #[derive(Clone, Copy, PartialEq, Eq, Debug)]
 pub enum FlavorOp {

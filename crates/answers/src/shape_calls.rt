@@ -57,13 +57,9 @@ impl TryFrom<u64> for ShapeOp {
 }
 
 fn conform(call: &mut Call, line: &mut Words) -> bool {
-    let answer = call.shape().conform(
-        call.second_shape(),
-        call.a,
-        call.b,
-        call.out,
-        call.right,
-    );
+    let answer = call
+        .shape()
+        .conform(call.second_shape(), call.a, call.b, call.out, call.right);
     let (number, (left, right)) = parts(answer, (BLANK, BLANK));
     let [d, kind, p, n, z] = shape_words(left);
     let [e, other, q, m, y] = shape_words(right);
