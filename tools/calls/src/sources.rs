@@ -50,7 +50,9 @@ pub fn constants(table: &Table, tree: &Tree) -> Vec<String> {
         }
     }
     let lost = table.refusals.iter().filter(|refusal| !found.contains(&refusal.name.as_str()));
-    faults.extend(lost.map(|refusal| format!("{} stands in no source of the crates with this number", refusal.name)));
+    faults.extend(lost.map(|refusal| {
+        format!("{} {} stands in no source of the crates with this number", refusal.name, refusal.variant)
+    }));
     faults
 }
 
