@@ -62,7 +62,8 @@ fn agrees(text: &[u8], space: &mut Space) -> bool {
     }
 }
 
-// Reads until the buffer is full or the input ends, and says how many bytes were read.
+// Reads until the buffer is full or the input ends, and says how many bytes were read. `read` says how far each step goes, and std's way to
+// read to the end needs a heap.
 fn read_full<R: Read>(input: &mut R, buf: &mut [u8]) -> io::Result<usize>
     ensures { IfOk result (λ n. n ≤ length buf.old) }
 {

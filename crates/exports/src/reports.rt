@@ -1,5 +1,5 @@
 // Answers, reported through the references of a call: 0 is returned, and what `face` makes of the answer stands where the references point.
-// A refusal returns its number, and reports nothing.
+// A refusal returns its number, and reports nothing. There is one function for each count of references, since C passes each by itself.
 ghost use Rattle.masks.specs.Outcome.{number_of};
 ghost use Rattle.exports.specs.inner.Answers.{IsReported};
 
