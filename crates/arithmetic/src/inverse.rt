@@ -45,18 +45,10 @@ fn test_square_in<const N: usize>(given: &[u16], value: Value) -> ScalarTest
     let mut square = [0.0; N];
     x[..a.len()].copy_from_slice(a);
     x[0] = a[0] + -a[0];
-    put_square(
-        given,
-        Value {
-            shape,
-            numbers: &x[..a.len()],
-        },
-        &mut square,
-    );
-    test_of(Value {
-        shape,
-        numbers: &square[..a.len()],
-    })
+    let numbers = &x[..a.len()];
+    put_square(given, Value { shape, numbers }, &mut square);
+    let numbers = &square[..a.len()];
+    test_of(Value { shape, numbers })
 }
 
 // The same, in arrays as long as the dimensions want.
