@@ -7,6 +7,7 @@ ghost use Rattle.arithmetic.specs.Dual.{dual_of, dual, antidual_of, antidual, re
 
 use super::kept::kept_refusal;
 use super::operators::{joined_dims, joined_refusal, mul_by};
+use super::value::Value;
 use masks::build::pseudoscalar;
 use masks::flavor::Flavor;
 use masks::order::{blades_or_none, put_order};
@@ -16,11 +17,12 @@ use product::mode::Mode;
 use product::products::multiply;
 
 // The dual, at the front of the output. The array for the unit holds N numbers.
-fn put_dual_in<const N: usize>(given: &[u16], shape: Shape, a: &[f64], out: &mut [f64])
-    requires in_order { InOrder given.now shape.dims }
-    requires dims_bound { (shape.dims ≤ 9) × (length a.now ≡ 2 ^ shape.dims) × (length a.now ≤ N) × (2 ^ shape.dims ≤ length out.old) × (N ≤ 512) }
-    ensures { out.new ≡ laid (dual_of shape.dims a.now) out.old }
+fn put_dual_in<const N: usize>(given: &[u16], value: Value, out: &mut [f64])
+    requires in_order { InOrder given.now value.shape.dims }
+    requires room { (length value.numbers.now ≤ N) × (2 ^ value.shape.dims ≤ length out.old) × (N ≤ 512) }
+    ensures { out.new ≡ laid (dual_of value.entry.shape.dims value.entry.numbers.now) out.old }
 {
+    let Value { shape, numbers: a } = value;
     let vanilla = shape.with_flavor(Flavor::Vanilla);
     let mut unit = [0.0; N];
     let _ = pseudoscalar(shape.dims, 1.0, Flavor::Vanilla, &mut unit);
@@ -28,24 +30,25 @@ fn put_dual_in<const N: usize>(given: &[u16], shape: Shape, a: &[f64], out: &mut
 }
 
 // The same, in an array as long as the dimensions want.
-fn put_dual(given: &[u16], shape: Shape, a: &[f64], out: &mut [f64])
-    requires in_order { InOrder given.now shape.dims }
-    requires dims_bound { (shape.dims ≤ 9) × (length a.now ≡ 2 ^ shape.dims) × (2 ^ shape.dims ≤ length out.old) }
-    ensures { out.new ≡ laid (dual_of shape.dims a.now) out.old }
+fn put_dual(given: &[u16], value: Value, out: &mut [f64])
+    requires in_order { InOrder given.now value.shape.dims }
+    requires room { 2 ^ value.shape.dims ≤ length out.old }
+    ensures { out.new ≡ laid (dual_of value.entry.shape.dims value.entry.numbers.now) out.old }
 {
-    if a.len() <= 64 {
-        put_dual_in::<64>(given, shape, a, out);
+    if value.numbers.len() <= 64 {
+        put_dual_in::<64>(given, value, out);
     } else {
-        put_dual_in::<512>(given, shape, a, out);
+        put_dual_in::<512>(given, value, out);
     }
 }
 
 // The antidual, at the front of the output. The array for the unit holds N numbers.
-fn put_antidual_in<const N: usize>(given: &[u16], shape: Shape, a: &[f64], out: &mut [f64])
-    requires in_order { InOrder given.now shape.dims }
-    requires dims_bound { (shape.dims ≤ 9) × (length a.now ≡ 2 ^ shape.dims) × (length a.now ≤ N) × (2 ^ shape.dims ≤ length out.old) × (N ≤ 512) }
-    ensures { out.new ≡ laid (antidual_of shape.dims a.now) out.old }
+fn put_antidual_in<const N: usize>(given: &[u16], value: Value, out: &mut [f64])
+    requires in_order { InOrder given.now value.shape.dims }
+    requires room { (length value.numbers.now ≤ N) × (2 ^ value.shape.dims ≤ length out.old) × (N ≤ 512) }
+    ensures { out.new ≡ laid (antidual_of value.entry.shape.dims value.entry.numbers.now) out.old }
 {
+    let Value { shape, numbers: a } = value;
     let vanilla = shape.with_flavor(Flavor::Vanilla);
     let mut unit = [0.0; N];
     let _ = pseudoscalar(shape.dims, 1.0, Flavor::Vanilla, &mut unit);
@@ -53,15 +56,15 @@ fn put_antidual_in<const N: usize>(given: &[u16], shape: Shape, a: &[f64], out: 
 }
 
 // The same, in an array as long as the dimensions want.
-fn put_antidual(given: &[u16], shape: Shape, a: &[f64], out: &mut [f64])
-    requires in_order { InOrder given.now shape.dims }
-    requires dims_bound { (shape.dims ≤ 9) × (length a.now ≡ 2 ^ shape.dims) × (2 ^ shape.dims ≤ length out.old) }
-    ensures { out.new ≡ laid (antidual_of shape.dims a.now) out.old }
+fn put_antidual(given: &[u16], value: Value, out: &mut [f64])
+    requires in_order { InOrder given.now value.shape.dims }
+    requires room { 2 ^ value.shape.dims ≤ length out.old }
+    ensures { out.new ≡ laid (antidual_of value.entry.shape.dims value.entry.numbers.now) out.old }
 {
-    if a.len() <= 64 {
-        put_antidual_in::<64>(given, shape, a, out);
+    if value.numbers.len() <= 64 {
+        put_antidual_in::<64>(given, value, out);
     } else {
-        put_antidual_in::<512>(given, shape, a, out);
+        put_antidual_in::<512>(given, value, out);
     }
 }
 
@@ -70,7 +73,7 @@ pub fn dual(shape: Shape, a: &[f64], out: &mut [f64]) -> Result<Shape, Refusal>
     ensures { Gives (dual shape a.now (length out.old)) result out.old out.new }
 {
     kept_refusal(shape, a, out.len())?;
-    put_dual(&[], shape, a, out);
+    put_dual(&[], Value { shape, numbers: a }, out);
     Ok(shape)
 }
 
@@ -79,7 +82,7 @@ pub fn antidual(shape: Shape, a: &[f64], out: &mut [f64]) -> Result<Shape, Refus
     ensures { Gives (antidual shape a.now (length out.old)) result out.old out.new }
 {
     kept_refusal(shape, a, out.len())?;
-    put_antidual(&[], shape, a, out);
+    put_antidual(&[], Value { shape, numbers: a }, out);
     Ok(shape)
 }
 
@@ -89,35 +92,33 @@ fn regressive_in<const N: usize, const M: usize>(
     own: &[u16],
     theirs: &[u16],
     joined: &[u16],
-    left: Shape,
-    right: Shape,
-    a: &[f64],
-    b: &[f64],
+    left: Value,
+    right: Value,
     out: &mut [f64],
 ) -> Result<Shape, Refusal>
-    requires in_order { InOrder own.now left.dims × InOrder theirs.now right.dims × InOrder joined.now (meeting_dims left right) }
-    requires dims_bound { (left.dims ≤ 9) × (right.dims ≤ 9) × (meeting_dims left right ≤ 9) }
-    requires a_len { (length a.now ≡ 2 ^ left.dims) × (length b.now ≡ 2 ^ right.dims) × (2 ^ meeting_dims left right ≤ length out.old) }
-    requires a_in_bounds { (length a.now ≤ N) × (length b.now ≤ N) × (2 ^ meeting_dims left right ≤ M) × (N ≤ 512) × (M ≤ 512) }
-    ensures { Gives (regressive_product left right a.now b.now (length out.old)) result out.old out.new }
+    requires in_order { InOrder own.now left.shape.dims × InOrder theirs.now right.shape.dims × InOrder joined.now (meeting_dims left.shape right.shape) }
+    requires meeting { (meeting_dims left.shape right.shape ≤ 9) × (2 ^ meeting_dims left.shape right.shape ≤ length out.old) }
+    requires room { (length left.numbers.now ≤ N) × (length right.numbers.now ≤ N) × (2 ^ meeting_dims left.shape right.shape ≤ M) × (N ≤ 512) × (M ≤ 512) }
+    ensures { Gives (regressive_product left.entry.shape right.entry.shape left.entry.numbers.now right.entry.numbers.now (length out.old)) result out.old out.new }
 {
     let mut x = [0.0; N];
     let mut y = [0.0; N];
     let mut z = [0.0; M];
-    put_dual(own, left, a, &mut x);
-    put_dual(theirs, right, b, &mut y);
+    put_dual(own, left, &mut x);
+    put_dual(theirs, right, &mut y);
     let p = multiply(
         joined,
         Mode::Outer,
-        left,
-        right,
-        &x[..a.len()],
-        &y[..b.len()],
+        left.shape,
+        right.shape,
+        &x[..left.numbers.len()],
+        &y[..right.numbers.len()],
         &mut z,
     )?;
-    let n = blades_or_none(p.shape.dims);
-    put_antidual(joined, p.shape, &z[..n], out);
-    Ok(p.shape)
+    let shape = p.shape;
+    let numbers = &z[..blades_or_none(shape.dims)];
+    put_antidual(joined, Value { shape, numbers }, out);
+    Ok(shape)
 }
 
 // The same, in arrays as long as the dimensions want.
@@ -125,70 +126,57 @@ fn regressive_by(
     own: &[u16],
     theirs: &[u16],
     joined: &[u16],
-    left: Shape,
-    right: Shape,
-    a: &[f64],
-    b: &[f64],
+    left: Value,
+    right: Value,
     out: &mut [f64],
 ) -> Result<Shape, Refusal>
-    requires in_order { InOrder own.now left.dims × InOrder theirs.now right.dims × InOrder joined.now (meeting_dims left right) }
-    requires dims_bound { (left.dims ≤ 9) × (right.dims ≤ 9) × (meeting_dims left right ≤ 9) }
-    requires a_len { (length a.now ≡ 2 ^ left.dims) × (length b.now ≡ 2 ^ right.dims) × (2 ^ meeting_dims left right ≤ length out.old) }
-    ensures { Gives (regressive_product left right a.now b.now (length out.old)) result out.old out.new }
+    requires in_order { InOrder own.now left.shape.dims × InOrder theirs.now right.shape.dims × InOrder joined.now (meeting_dims left.shape right.shape) }
+    requires meeting { (meeting_dims left.shape right.shape ≤ 9) × (2 ^ meeting_dims left.shape right.shape ≤ length out.old) }
+    ensures { Gives (regressive_product left.entry.shape right.entry.shape left.entry.numbers.now right.entry.numbers.now (length out.old)) result out.old out.new }
 {
-    if left.dims < 6 && right.dims < 6 {
-        return regressive_in::<32, 64>(own, theirs, joined, left, right, a, b, out);
+    if left.shape.dims < 6 && right.shape.dims < 6 {
+        return regressive_in::<32, 64>(own, theirs, joined, left, right, out);
     }
-    regressive_in::<512, 512>(own, theirs, joined, left, right, a, b, out)
+    regressive_in::<512, 512>(own, theirs, joined, left, right, out)
 }
 
 // The same, with the order of the dimensions that the values meet in: the left one's or the right one's where it is that, else one that is built here.
 fn regressive_joined(
     own: &[u16],
     theirs: &[u16],
-    left: Shape,
-    right: Shape,
-    a: &[f64],
-    b: &[f64],
+    left: Value,
+    right: Value,
     out: &mut [f64],
 ) -> Result<Shape, Refusal>
-    requires in_order { InOrder own.now left.dims × InOrder theirs.now right.dims }
-    requires dims_bound { (left.dims ≤ 9) × (right.dims ≤ 9) × (meeting_dims left right ≤ 9) }
-    requires a_len { (length a.now ≡ 2 ^ left.dims) × (length b.now ≡ 2 ^ right.dims) × (2 ^ meeting_dims left right ≤ length out.old) }
-    ensures { Gives (regressive_product left right a.now b.now (length out.old)) result out.old out.new }
+    requires in_order { InOrder own.now left.shape.dims × InOrder theirs.now right.shape.dims }
+    requires meeting { (meeting_dims left.shape right.shape ≤ 9) × (2 ^ meeting_dims left.shape right.shape ≤ length out.old) }
+    ensures { Gives (regressive_product left.entry.shape right.entry.shape left.entry.numbers.now right.entry.numbers.now (length out.old)) result out.old out.new }
 {
-    let n = joined_dims(left, right, true);
-    if n == left.dims {
-        return regressive_by(own, theirs, own, left, right, a, b, out);
+    let n = joined_dims(left.shape, right.shape, true);
+    if n == left.shape.dims {
+        return regressive_by(own, theirs, own, left, right, out);
     }
-    if n == right.dims {
-        return regressive_by(own, theirs, theirs, left, right, a, b, out);
+    if n == right.shape.dims {
+        return regressive_by(own, theirs, theirs, left, right, out);
     }
     let mut order = [0; 512];
     put_order(n, &mut order).unwrap();
-    regressive_by(own, theirs, &order, left, right, a, b, out)
+    regressive_by(own, theirs, &order, left, right, out)
 }
 
 // The same, with the orders of both values' dimensions, one where they are the same. Each is built here, once.
-fn put_regressive(
-    left: Shape,
-    right: Shape,
-    a: &[f64],
-    b: &[f64],
-    out: &mut [f64],
-) -> Result<Shape, Refusal>
-    requires dims_bound { (left.dims ≤ 9) × (right.dims ≤ 9) × (meeting_dims left right ≤ 9) }
-    requires a_len { (length a.now ≡ 2 ^ left.dims) × (length b.now ≡ 2 ^ right.dims) × (2 ^ meeting_dims left right ≤ length out.old) }
-    ensures { Gives (regressive_product left right a.now b.now (length out.old)) result out.old out.new }
+fn put_regressive(left: Value, right: Value, out: &mut [f64]) -> Result<Shape, Refusal>
+    requires meeting { (meeting_dims left.shape right.shape ≤ 9) × (2 ^ meeting_dims left.shape right.shape ≤ length out.old) }
+    ensures { Gives (regressive_product left.entry.shape right.entry.shape left.entry.numbers.now right.entry.numbers.now (length out.old)) result out.old out.new }
 {
     let mut own = [0; 512];
-    put_order(left.dims, &mut own).unwrap();
-    if left.dims == right.dims {
-        return regressive_joined(&own, &own, left, right, a, b, out);
+    put_order(left.shape.dims, &mut own).unwrap();
+    if left.shape.dims == right.shape.dims {
+        return regressive_joined(&own, &own, left, right, out);
     }
     let mut theirs = [0; 512];
-    put_order(right.dims, &mut theirs).unwrap();
-    regressive_joined(&own, &theirs, left, right, a, b, out)
+    put_order(right.shape.dims, &mut theirs).unwrap();
+    regressive_joined(&own, &theirs, left, right, out)
 }
 
 // The regressive product.
@@ -202,5 +190,13 @@ pub fn regressive_product(
     ensures { Gives (regressive_product left right a.now b.now (length out.old)) result out.old out.new }
 {
     joined_refusal(left, right, true, a, b, out.len())?;
-    put_regressive(left, right, a, b, out)
+    let value = Value {
+        shape: left,
+        numbers: a,
+    };
+    let value_right = Value {
+        shape: right,
+        numbers: b,
+    };
+    put_regressive(value, value_right, out)
 }

@@ -10,6 +10,7 @@ ghost use Rattle.arithmetic.specs.Inverse.{square_of, less_scalar, by_square, na
 use super::kept::kept_refusal;
 use super::scalar::{ScalarTest, test_of};
 use super::scale::{negate, scale};
+use super::value::Value;
 use masks::outcome::Refusal;
 use masks::shape::Shape;
 use product::mode::Mode;
@@ -24,38 +25,41 @@ pub(crate) fn was_planar(test: ScalarTest) -> bool
 }
 
 // The value squared by the pairwise product, at the front of the output.
-pub(crate) fn put_square(given: &[u16], shape: Shape, x: &[f64], out: &mut [f64])
-    requires in_order { InOrder given.now shape.dims }
-    requires dims_bound { (shape.dims ≤ 9) × (length x.now ≡ 2 ^ shape.dims) × (2 ^ shape.dims ≤ length out.old) }
-    ensures { out.new ≡ laid (square_of shape x.now) out.old }
+pub(crate) fn put_square(given: &[u16], value: Value, out: &mut [f64])
+    requires in_order { InOrder given.now value.shape.dims }
+    requires room { 2 ^ value.shape.dims ≤ length out.old }
+    ensures { out.new ≡ laid (square_of value.entry.shape value.entry.numbers.now) out.old }
 {
-    let _ = multiply(given, Mode::All, shape, shape, x, x, out);
+    let Value { shape, numbers } = value;
+    let _ = multiply(given, Mode::All, shape, shape, numbers, numbers, out);
 }
 
 // The scalar test of x squared, x being the value with -s added at place 0, s. The arrays for x and its square hold N numbers.
-fn test_square_in<const N: usize>(given: &[u16], shape: Shape, a: &[f64]) -> ScalarTest
-    requires in_order { InOrder given.now shape.dims }
-    requires dims_bound { (shape.dims ≤ 9) × (length a.now ≡ 2 ^ shape.dims) × (length a.now ≤ N) × (N ≤ 512) }
-    ensures { result ≡ test_of shape (square_of shape (less_scalar a.now)) }
+fn test_square_in<const N: usize>(given: &[u16], value: Value) -> ScalarTest
+    requires in_order { InOrder given.now value.shape.dims }
+    requires room { (length value.numbers.now ≤ N) × (N ≤ 512) }
+    ensures { result ≡ test_of value.entry.shape (square_of value.entry.shape (less_scalar value.entry.numbers.now)) }
 {
+    let Value { shape, numbers: a } = value;
     let mut x = [0.0; N];
     let mut square = [0.0; N];
     x[..a.len()].copy_from_slice(a);
     x[0] = a[0] + -a[0];
-    put_square(given, shape, &x[..a.len()], &mut square);
-    test_of(shape, &square[..a.len()])
+    let numbers = &x[..a.len()];
+    put_square(given, Value { shape, numbers }, &mut square);
+    let numbers = &square[..a.len()];
+    test_of(Value { shape, numbers })
 }
 
 // The same, in arrays as long as the dimensions want.
-fn test_square(given: &[u16], shape: Shape, a: &[f64]) -> ScalarTest
-    requires in_order { InOrder given.now shape.dims }
-    requires dims_bound { (shape.dims ≤ 9) × (length a.now ≡ 2 ^ shape.dims) }
-    ensures { result ≡ test_of shape (square_of shape (less_scalar a.now)) }
+fn test_square(given: &[u16], value: Value) -> ScalarTest
+    requires in_order { InOrder given.now value.shape.dims }
+    ensures { result ≡ test_of value.entry.shape (square_of value.entry.shape (less_scalar value.entry.numbers.now)) }
 {
-    if a.len() <= 64 {
-        return test_square_in::<64>(given, shape, a);
+    if value.numbers.len() <= 64 {
+        return test_square_in::<64>(given, value);
     }
-    test_square_in::<512>(given, shape, a)
+    test_square_in::<512>(given, value)
 }
 
 // The value at the front, whose place 0 is s, becomes (-x + s) / (s x s - q).
@@ -80,12 +84,13 @@ fn put_nan(dims: u8, n: usize, out: &mut [f64])
 }
 
 // The inverse of a value that is neither scalar nor planar.
-fn put_general(given: &[u16], shape: Shape, a: &[f64], out: &mut [f64])
-    requires in_order { InOrder given.now shape.dims }
-    requires dims_bound { (shape.dims ≤ 9) × (length a.now ≡ 2 ^ shape.dims) × (2 ^ shape.dims ≤ length out.old) }
-    ensures { out.new ≡ laid (general_inverse shape a.now) out.old }
+fn put_general(given: &[u16], value: Value, out: &mut [f64])
+    requires in_order { InOrder given.now value.shape.dims }
+    requires room { 2 ^ value.shape.dims ≤ length out.old }
+    ensures { out.new ≡ laid (general_inverse value.entry.shape value.entry.numbers.now) out.old }
 {
-    match test_square(given, shape, a) {
+    let Value { shape, numbers: a } = value;
+    match test_square(given, value) {
         ScalarTest::Scalar(q) => {
             out[..a.len()].copy_from_slice(a);
             put_by_square(a.len(), q, out);
@@ -95,24 +100,24 @@ fn put_general(given: &[u16], shape: Shape, a: &[f64], out: &mut [f64])
 }
 
 // The value with 1 / f at place 0.
-fn put_reciprocal(shape: Shape, f: f64, a: &[f64], out: &mut [f64])
-    requires { (shape.dims ≤ 9) × (length a.now ≡ 2 ^ shape.dims) × (2 ^ shape.dims ≤ length out.old) }
-    ensures { out.new ≡ laid (set a.now 0 (reciprocal f)) out.old }
+fn put_reciprocal(f: f64, value: Value, out: &mut [f64])
+    requires { 2 ^ value.shape.dims ≤ length out.old }
+    ensures { out.new ≡ laid (set value.entry.numbers.now 0 (reciprocal f)) out.old }
 {
-    out[..a.len()].copy_from_slice(a);
+    out[..value.numbers.len()].copy_from_slice(value.numbers);
     out[0] = 1.0 / f;
 }
 
 // The inverse, at the front of the output; a planar value has none, and nothing is written.
-pub(crate) fn put_inverse(given: &[u16], shape: Shape, a: &[f64], out: &mut [f64])
-    requires in_order { InOrder given.now shape.dims }
-    requires dims_bound { (shape.dims ≤ 9) × (length a.now ≡ 2 ^ shape.dims) × (2 ^ shape.dims ≤ length out.old) }
-    ensures { out.new ≡ laid (inverse_of shape a.now) out.old }
+pub(crate) fn put_inverse(given: &[u16], value: Value, out: &mut [f64])
+    requires in_order { InOrder given.now value.shape.dims }
+    requires room { 2 ^ value.shape.dims ≤ length out.old }
+    ensures { out.new ≡ laid (inverse_of value.entry.shape value.entry.numbers.now) out.old }
 {
-    match test_of(shape, a) {
-        ScalarTest::Scalar(f) => put_reciprocal(shape, f, a, out),
+    match test_of(value) {
+        ScalarTest::Scalar(f) => put_reciprocal(f, value, out),
         ScalarTest::Planar(_) => {}
-        ScalarTest::Neither => put_general(given, shape, a, out),
+        ScalarTest::Neither => put_general(given, value, out),
     }
 }
 
@@ -121,9 +126,10 @@ pub fn inverted(shape: Shape, a: &[f64], out: &mut [f64]) -> Result<Shape, Refus
     ensures { Gives (inverse shape a.now (length out.old)) result out.old out.new }
 {
     kept_refusal(shape, a, out.len())?;
-    if was_planar(test_of(shape, a)) {
+    let value = Value { shape, numbers: a };
+    if was_planar(test_of(value)) {
         return Err(Refusal::Planar);
     }
-    put_inverse(&[], shape, a, out);
+    put_inverse(&[], value, out);
     Ok(shape)
 }

@@ -13,3 +13,4 @@ pub mod quotient;
 pub mod reverse;
 pub mod scalar;
 pub mod scale;
+mod value;

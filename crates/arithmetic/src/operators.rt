@@ -11,6 +11,7 @@ ghost use Rattle.arithmetic.specs.Operators.Sum.{Plus, Minus};
 
 use super::scalar::{ScalarTest, is_scalar, test_of};
 use super::scale::scale;
+use super::value::Value;
 use masks::order::blades_or_none;
 use masks::outcome::{Refusal, pair_refusal};
 use masks::shape::{Shape, promotion};
@@ -112,7 +113,10 @@ pub(crate) fn mul_by(
     ensures { Gives (multiplication left right a.now b.now (length out.old)) result out.old out.new }
 {
     operator_refusal(left, right, a, b, out.len())?;
-    match test_of(right, b) {
+    match test_of(Value {
+        shape: right,
+        numbers: b,
+    }) {
         ScalarTest::Scalar(f) => mul_scalar(left, right, f, a, out),
         _ => mul_other(given, left, right, a, b, out),
     }

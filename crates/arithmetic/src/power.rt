@@ -12,6 +12,7 @@ ghost use Rattle.arithmetic.specs.Power.{is_negative, size_of, is_direct, power_
 use super::inverse::{put_inverse, put_square, was_planar};
 use super::operators::mul_by;
 use super::scalar::test_of;
+use super::value::Value;
 use masks::build::scalar;
 use masks::order::{blades_or_none, put_order};
 use masks::outcome::{Refusal, refusal_of};
@@ -41,7 +42,7 @@ fn power_refusal(shape: Shape, power: i32, a: &[f64], room: usize) -> Result<(),
 {
     let n = power_dims(shape, power);
     refusal_of(shape.dims, n, a.len(), room, blades_or_none(n))?;
-    if power < 0 && was_planar(test_of(shape, a)) {
+    if power < 0 && was_planar(test_of(Value { shape, numbers: a })) {
         return Err(Refusal::Planar);
     }
     if power == i32::MIN {
@@ -75,7 +76,14 @@ fn square_front(given: &[u16], shape: Shape, n: usize, next: &mut [f64], base: &
     requires dims_bound { (shape.dims ≤ 9) × (n ≡ 2 ^ shape.dims) × (n ≤ length base.old) × (n ≤ length next.old) }
     ensures { base.new ≡ laid (square_of shape (take n base.old)) base.old }
 {
-    put_square(given, shape, &base[..n], next);
+    put_square(
+        given,
+        Value {
+            shape,
+            numbers: &base[..n],
+        },
+        next,
+    );
     base[..n].copy_from_slice(&next[..n]);
 }
 
@@ -164,7 +172,7 @@ fn raise(given: &[u16], shape: Shape, power: u32, x: &[f64], out: &mut [f64])
         return;
     }
     if power == 2 {
-        put_square(given, shape, x, out);
+        put_square(given, Value { shape, numbers: x }, out);
         return;
     }
     raise_by_digits(given, shape, power, x, out);
@@ -184,7 +192,7 @@ fn raise_inverse<const N: usize>(
     ensures { out.new ≡ laid (raised_to shape power (inverse_of shape a.now)) out.old }
 {
     let mut base = [0.0; N];
-    put_inverse(given, shape, a, &mut base);
+    put_inverse(given, Value { shape, numbers: a }, &mut base);
     raise(given, shape, power, &base[..a.len()], out);
 }
 

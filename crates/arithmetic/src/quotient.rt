@@ -9,6 +9,7 @@ use super::inverse::put_inverse;
 use super::operators::{mul_by, operator_refusal};
 use super::scalar::{ScalarTest, test_of};
 use super::scale::div_f64;
+use super::value::Value;
 use masks::order::put_order;
 use masks::outcome::{Refusal, pair_refusal, value_refusal};
 use masks::shape::Shape;
@@ -27,37 +28,31 @@ fn planar_refusal(left: Shape, right: Shape, a: &[f64], b: &[f64], room: usize) 
 // once, and the product reads it too where the values meet in these dimensions.
 fn mul_inverse_in<const N: usize>(
     left: Shape,
-    right: Shape,
     a: &[f64],
-    b: &[f64],
+    right: Value,
     out: &mut [f64],
 ) -> Result<Shape, Refusal>
-    requires dims_bound { (right.dims ≤ 9) × (length b.now ≡ 2 ^ right.dims) × (length (inverse_of right b.now) ≡ 2 ^ right.dims) }
-    requires b_in_bounds { (length b.now ≤ N) × (N ≤ 512) }
-    ensures { Gives (multiplication left right a.now (inverse_of right b.now) (length out.old)) result out.old out.new }
+    requires inverted { length (inverse_of right.shape right.numbers.now) ≡ 2 ^ right.shape.dims }
+    requires room { (length right.numbers.now ≤ N) × (N ≤ 512) }
+    ensures { Gives (multiplication left right.entry.shape a.now (inverse_of right.entry.shape right.entry.numbers.now) (length out.old)) result out.old out.new }
 {
+    let n = right.numbers.len();
     let mut order = [0; N];
     let mut inverse = [0.0; N];
-    put_order(right.dims, &mut order).unwrap();
-    put_inverse(&order[..b.len()], right, b, &mut inverse);
-    mul_by(&order[..b.len()], left, right, a, &inverse[..b.len()], out)
+    put_order(right.shape.dims, &mut order).unwrap();
+    put_inverse(&order[..n], right, &mut inverse);
+    mul_by(&order[..n], left, right.shape, a, &inverse[..n], out)
 }
 
 // The same, in arrays as long as the dimensions want.
-fn mul_inverse(
-    left: Shape,
-    right: Shape,
-    a: &[f64],
-    b: &[f64],
-    out: &mut [f64],
-) -> Result<Shape, Refusal>
-    requires { (right.dims ≤ 9) × (length b.now ≡ 2 ^ right.dims) × (length (inverse_of right b.now) ≡ 2 ^ right.dims) }
-    ensures { Gives (multiplication left right a.now (inverse_of right b.now) (length out.old)) result out.old out.new }
+fn mul_inverse(left: Shape, a: &[f64], right: Value, out: &mut [f64]) -> Result<Shape, Refusal>
+    requires { length (inverse_of right.shape right.numbers.now) ≡ 2 ^ right.shape.dims }
+    ensures { Gives (multiplication left right.entry.shape a.now (inverse_of right.entry.shape right.entry.numbers.now) (length out.old)) result out.old out.new }
 {
-    if b.len() <= 64 {
-        return mul_inverse_in::<64>(left, right, a, b, out);
+    if right.numbers.len() <= 64 {
+        return mul_inverse_in::<64>(left, a, right, out);
     }
-    mul_inverse_in::<512>(left, right, a, b, out)
+    mul_inverse_in::<512>(left, a, right, out)
 }
 
 // `/` by a value: by a scalar one nothing is conformed; by others it multiplies by the inverse.
@@ -80,9 +75,13 @@ pub fn div(
             out.len(),
         )?;
     }
-    match test_of(right, b) {
+    let value = Value {
+        shape: right,
+        numbers: b,
+    };
+    match test_of(value) {
         ScalarTest::Scalar(f) => div_f64(left, f, a, out),
         ScalarTest::Planar(_) => Err(planar_refusal(left, right, a, b, out.len())),
-        ScalarTest::Neither => mul_inverse(left, right, a, b, out),
+        ScalarTest::Neither => mul_inverse(left, a, value, out),
     }
 }

@@ -1,9 +1,10 @@
 // The scalar test.
-ghost use Rattle.std.specs.Prelude.{◌≡◌, false, ◌&&◌, ◌+◌, ◌^◌, ◌≤◌, length, drop};
+ghost use Rattle.std.specs.Prelude.{◌≡◌, false, ◌&&◌, ◌+◌, ◌≤◌, length, drop};
 ghost use Rattle.masks.specs.Outcome.{IsAnswer};
 ghost use Rattle.arithmetic.specs.Scalar.{all_zero, is_scalar, is_vanilla, is_planar, test_of, scalar_test};
 
 use super::compare::four_equal;
+use super::value::Value;
 use masks::flavor::Flavor;
 use masks::outcome::{Refusal, value_refusal};
 use masks::shape::Shape;
@@ -81,10 +82,10 @@ fn is_vanilla(flavor: Flavor) -> bool
     matches!(flavor, Flavor::Vanilla)
 }
 
-fn is_planar(shape: Shape, a: &[f64]) -> bool
-    requires { length a.now ≡ 2 ^ shape.dims }
-    ensures { result ≡ is_planar shape a.now }
+fn is_planar(value: Value) -> bool
+    ensures { result ≡ is_planar value.entry.shape value.entry.numbers.now }
 {
+    let Value { shape, numbers: a } = value;
     if shape.dims != 2 {
         return false;
     }
@@ -93,11 +94,12 @@ fn is_planar(shape: Shape, a: &[f64]) -> bool
 }
 
 // The test of a value that is not scalar.
-fn test_other(shape: Shape, a: &[f64]) -> ScalarTest
-    requires { (length a.now ≡ 2 ^ shape.dims) × (is_scalar a.now ≡ false) }
-    ensures { result ≡ test_of shape a.now }
+fn test_other(value: Value) -> ScalarTest
+    requires { is_scalar value.numbers.now ≡ false }
+    ensures { result ≡ test_of value.entry.shape value.entry.numbers.now }
 {
-    if is_planar(shape, a) {
+    if is_planar(value) {
+        let a = value.numbers;
         let pair = Complex { re: a[0], im: a[3] };
         return ScalarTest::Planar(pair);
     }
@@ -105,14 +107,13 @@ fn test_other(shape: Shape, a: &[f64]) -> ScalarTest
 }
 
 // Scalar is tried first.
-pub(crate) fn test_of(shape: Shape, a: &[f64]) -> ScalarTest
-    requires { length a.now ≡ 2 ^ shape.dims }
-    ensures { result ≡ test_of shape a.now }
+pub(crate) fn test_of(value: Value) -> ScalarTest
+    ensures { result ≡ test_of value.entry.shape value.entry.numbers.now }
 {
-    if is_scalar(a) {
-        return ScalarTest::Scalar(a[0]);
+    if is_scalar(value.numbers) {
+        return ScalarTest::Scalar(value.numbers[0]);
     }
-    test_other(shape, a)
+    test_other(value)
 }
 
 // The scalar test of a value; as `test_of` does it, which is not called, so that its answer is not copied.
@@ -123,5 +124,5 @@ pub fn scalar_test(shape: Shape, a: &[f64]) -> Result<ScalarTest, Refusal>
     if is_scalar(a) {
         return Ok(ScalarTest::Scalar(a[0]));
     }
-    Ok(test_other(shape, a))
+    Ok(test_other(Value { shape, numbers: a }))
 }

@@ -14,11 +14,14 @@ returns-in_err-kept_refusal c =
 pub put_antidual-requires-clause-in_order : goal.put_antidual-requires-clause-in_order
 put_antidual-requires-clause-in_order c = passed_none _
 
-pub put_antidual-requires-clause-dims_bound : goal.put_antidual-requires-clause-dims_bound
-put_antidual-requires-clause-dims_bound c =
+pub put_antidual-requires-clause-room : goal.put_antidual-requires-clause-room
+put_antidual-requires-clause-room c = let a = c.args in (kept_accepted a.shape a.a.now (length a.out.now) c.in_ok-kept_refusal.ensures.0).roomy
+
+pub invariant_of-put_antidual : goal.invariant_of-put_antidual
+invariant_of-put_antidual c =
     let a = c.args in
     let f = kept_accepted a.shape a.a.now (length a.out.now) c.in_ok-kept_refusal.ensures.0 in
-    (f.small, f.counted, f.roomy)
+    record { small = f.small; counted = f.counted }
 
 pub returns : goal.returns
 returns c =

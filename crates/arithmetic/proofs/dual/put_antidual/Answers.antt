@@ -2,7 +2,5 @@ use native.Mathlib.Omega.{arith}
 use Rattle.masks.proofs.OrderLaws.{blades_le}
 use Rattle.arithmetic.proofs.dual.put_antidual.Goals as goal
 
-pub put_antidual_in-requires-else-a-le64-clause-dims_bound : goal.put_antidual_in-requires-else-a-le64-clause-dims_bound
-put_antidual_in-requires-else-a-le64-clause-dims_bound c =
-    let r = c.requires.dims_bound in
-    (r.0, r.1, omega (arith, r.1, blades_le _ r.0), r.2, omega arith)
+pub put_antidual_in-requires-else-value-le64-clause-room : goal.put_antidual_in-requires-else-value-le64-clause-room
+put_antidual_in-requires-else-value-le64-clause-room c = let v = c.args.value in (omega (arith, v.counted, blades_le _ v.small), c.requires.room, omega arith)

@@ -14,8 +14,8 @@ use Rattle.arithmetic.proofs.DualRegressive.{Meets, meeting_shape, never_refused
 use Rattle.arithmetic.proofs.OrderPassed.{array_room}
 use Rattle.arithmetic.proofs.dual.regressive_in.Goals as goal
 
-met : (s t : Shape) (a b : List Float) (room : ℕ) → (s.dims ≤ 9) × (t.dims ≤ 9) × (meeting_dims s t ≤ 9) → (length a ≡ 2 ^ s.dims) × (length b ≡ 2 ^ t.dims) × (2 ^ meeting_dims s t ≤ room) → Meets s t a b room
-met s t a b room p q = record { small = p.0; small_right = p.1; result = p.2; counted = q.0; counted_right = q.1; roomy = q.2 }
+met : (s t : Shape) (a b : List Float) (room : ℕ) → s.dims ≤ 9 → t.dims ≤ 9 → length a ≡ 2 ^ s.dims → length b ≡ 2 ^ t.dims → (meeting_dims s t ≤ 9) × (2 ^ meeting_dims s t ≤ room) → Meets s t a b room
+met s t a b room h k c d m = record { small = h; small_right = k; result = m.0; counted = c; counted_right = d; roomy = m.1 }
 
 -- The product's dimensions d are the n that the values meet in, so the product has m numbers, and the third array room for them.
 module _ (d n m : ℕ) (e : d ≡ n) (h : n ≤ 9) (k : m ≡ blades_or_none d) where
@@ -31,31 +31,61 @@ module _ (d n m : ℕ) (e : d ≡ n) (h : n ≤ 9) (k : m ≡ blades_or_none d) 
 pub returns-in_err-p : goal.returns-in_err-p
 returns-in_err-p g c =
     let a = c.args in
-    absurd (never_refused a.left a.right a.a.now a.b.now (length a.out.now) (met a.left a.right a.a.now a.b.now (length a.out.now) c.requires.dims_bound c.requires.a_len) a.joined.now c.requires.in_order.2 _ _ _ _ _ _ (array_room _ c.requires.a_in_bounds.2) c.put_dual.ensures c.put_dual-2.ensures c.in_err-p.field-0.0 c.in_err-p.ensures)
+    let s = a.left.shape in
+    let t = a.right.shape in
+    let x = a.left.numbers.now in
+    let y = a.right.numbers.now in
+    absurd (never_refused s t x y (length a.out.now) (met s t x y (length a.out.now) a.left.small a.right.small a.left.counted a.right.counted c.requires.meeting) a.joined.now c.requires.in_order.2 _ _ _ _ _ _ (array_room _ c.requires.room.2) c.put_dual.ensures c.put_dual-2.ensures c.in_err-p.field-0.0 c.in_err-p.ensures)
 
-pub shared_whole_as_front-put_antidual : goal.shared_whole_as_front-put_antidual
-shared_whole_as_front-put_antidual g c =
+pub shared_whole_as_front-numbers : goal.shared_whole_as_front-numbers
+shared_whole_as_front-numbers g c =
     let a = c.args in
-    let d = meeting_shape a.left a.right a.a.now a.b.now (length a.out.now) (met a.left a.right a.a.now a.b.now (length a.out.now) c.requires.dims_bound c.requires.a_len) a.joined.now c.requires.in_order.2 _ _ _ _ _ _ (array_room _ c.requires.a_in_bounds.2) c.put_dual.ensures c.put_dual-2.ensures c.in_ok-p.p c.in_ok-p.ensures in
-    (within _ _ _ d c.requires.dims_bound.2 c.blades_or_none-n.ensures _ c.requires.a_in_bounds.2, omega (arith, c.requires.a_in_bounds.4))
+    let s = a.left.shape in
+    let t = a.right.shape in
+    let x = a.left.numbers.now in
+    let y = a.right.numbers.now in
+    let d = meeting_shape s t x y (length a.out.now) (met s t x y (length a.out.now) a.left.small a.right.small a.left.counted a.right.counted c.requires.meeting) a.joined.now c.requires.in_order.2 _ _ _ _ _ _ (array_room _ c.requires.room.2) c.put_dual.ensures c.put_dual-2.ensures c.in_ok-p.p c.in_ok-p.ensures in
+    (within _ _ _ d c.requires.meeting.0 c.blades_or_none.ensures _ c.requires.room.2, omega (arith, c.requires.room.4))
 
 pub put_antidual-requires-clause-in_order : goal.put_antidual-requires-clause-in_order
 put_antidual-requires-clause-in_order g c =
     let a = c.args in
-    subst (InOrder a.joined.now) (sym (meeting_shape a.left a.right a.a.now a.b.now (length a.out.now) (met a.left a.right a.a.now a.b.now (length a.out.now) c.requires.dims_bound c.requires.a_len) a.joined.now c.requires.in_order.2 _ _ _ _ _ _ (array_room _ c.requires.a_in_bounds.2) c.put_dual.ensures c.put_dual-2.ensures c.in_ok-p.p c.in_ok-p.ensures)) c.requires.in_order.2
+    let s = a.left.shape in
+    let t = a.right.shape in
+    let x = a.left.numbers.now in
+    let y = a.right.numbers.now in
+    subst (InOrder a.joined.now) (sym (meeting_shape s t x y (length a.out.now) (met s t x y (length a.out.now) a.left.small a.right.small a.left.counted a.right.counted c.requires.meeting) a.joined.now c.requires.in_order.2 _ _ _ _ _ _ (array_room _ c.requires.room.2) c.put_dual.ensures c.put_dual-2.ensures c.in_ok-p.p c.in_ok-p.ensures)) c.requires.in_order.2
 
-pub put_antidual-requires-clause-dims_bound : goal.put_antidual-requires-clause-dims_bound
-put_antidual-requires-clause-dims_bound g c =
+pub invariant_of-put_antidual : goal.invariant_of-put_antidual
+invariant_of-put_antidual g c =
     let a = c.args in
-    let d = meeting_shape a.left a.right a.a.now a.b.now (length a.out.now) (met a.left a.right a.a.now a.b.now (length a.out.now) c.requires.dims_bound c.requires.a_len) a.joined.now c.requires.in_order.2 _ _ _ _ _ _ (array_room _ c.requires.a_in_bounds.2) c.put_dual.ensures c.put_dual-2.ensures c.in_ok-p.p c.in_ok-p.ensures in
-    let k = counted _ _ _ d c.requires.dims_bound.2 c.blades_or_none-n.ensures in (
-      small _ _ _ d c.requires.dims_bound.2 c.blades_or_none-n.ensures,
-      length-take-le _ _ (rw c.multiply.auto.out (array_room _ (within _ _ _ d c.requires.dims_bound.2 c.blades_or_none-n.ensures _ c.requires.a_in_bounds.2))) ∙ k,
-      omega (arith, ap (λ (i : ℕ). 2 ^ i) d, c.requires.a_len.2),
-    )
+    let s = a.left.shape in
+    let t = a.right.shape in
+    let x = a.left.numbers.now in
+    let y = a.right.numbers.now in
+    let d = meeting_shape s t x y (length a.out.now) (met s t x y (length a.out.now) a.left.small a.right.small a.left.counted a.right.counted c.requires.meeting) a.joined.now c.requires.in_order.2 _ _ _ _ _ _ (array_room _ c.requires.room.2) c.put_dual.ensures c.put_dual-2.ensures c.in_ok-p.p c.in_ok-p.ensures in
+    let k = counted _ _ _ d c.requires.meeting.0 c.blades_or_none.ensures in
+    record {
+      small = small _ _ _ d c.requires.meeting.0 c.blades_or_none.ensures;
+      counted = length-take-le _ _ (rw c.multiply.auto.out (array_room _ (within _ _ _ d c.requires.meeting.0 c.blades_or_none.ensures _ c.requires.room.2))) ∙ k;
+    }
+
+pub put_antidual-requires-clause-room : goal.put_antidual-requires-clause-room
+put_antidual-requires-clause-room g c =
+    let a = c.args in
+    let s = a.left.shape in
+    let t = a.right.shape in
+    let x = a.left.numbers.now in
+    let y = a.right.numbers.now in
+    let d = meeting_shape s t x y (length a.out.now) (met s t x y (length a.out.now) a.left.small a.right.small a.left.counted a.right.counted c.requires.meeting) a.joined.now c.requires.in_order.2 _ _ _ _ _ _ (array_room _ c.requires.room.2) c.put_dual.ensures c.put_dual-2.ensures c.in_ok-p.p c.in_ok-p.ensures in
+    omega (arith, ap (λ (i : ℕ). 2 ^ i) d, c.requires.meeting.1)
 
 pub returns : goal.returns
 returns g c =
     let a = c.args in
-    let d = meeting_shape a.left a.right a.a.now a.b.now (length a.out.now) (met a.left a.right a.a.now a.b.now (length a.out.now) c.requires.dims_bound c.requires.a_len) a.joined.now c.requires.in_order.2 _ _ _ _ _ _ (array_room _ c.requires.a_in_bounds.2) c.put_dual.ensures c.put_dual-2.ensures c.in_ok-p.p c.in_ok-p.ensures in
-    gives_regressive a.left a.right a.a.now a.b.now (length a.out.now) (met a.left a.right a.a.now a.b.now (length a.out.now) c.requires.dims_bound c.requires.a_len) a.joined.now c.requires.in_order.2 _ _ _ _ _ _ (array_room _ c.requires.a_in_bounds.2) c.put_dual.ensures c.put_dual-2.ensures c.in_ok-p.p c.in_ok-p.ensures c.blades_or_none-n.result a.out.now _ (counted _ _ _ d c.requires.dims_bound.2 c.blades_or_none-n.ensures) c.put_antidual.ensures
+    let s = a.left.shape in
+    let t = a.right.shape in
+    let x = a.left.numbers.now in
+    let y = a.right.numbers.now in
+    let d = meeting_shape s t x y (length a.out.now) (met s t x y (length a.out.now) a.left.small a.right.small a.left.counted a.right.counted c.requires.meeting) a.joined.now c.requires.in_order.2 _ _ _ _ _ _ (array_room _ c.requires.room.2) c.put_dual.ensures c.put_dual-2.ensures c.in_ok-p.p c.in_ok-p.ensures in
+    gives_regressive s t x y (length a.out.now) (met s t x y (length a.out.now) a.left.small a.right.small a.left.counted a.right.counted c.requires.meeting) a.joined.now c.requires.in_order.2 _ _ _ _ _ _ (array_room _ c.requires.room.2) c.put_dual.ensures c.put_dual-2.ensures c.in_ok-p.p c.in_ok-p.ensures c.blades_or_none.result a.out.now _ (counted _ _ _ d c.requires.meeting.0 c.blades_or_none.ensures) c.put_antidual.ensures

@@ -10,11 +10,11 @@ use Rattle.arithmetic.proofs.dual.regressive_joined.Goals as goal
 
 -- The dimensions that are found are those that the values meet in.
 module _ (b : After-joined_dims-n) where
-  meets : b.joined_dims-n.result ≡ meeting_dims b.args.left b.args.right
-  meets = b.joined_dims-n.ensures b.requires.dims_bound.0 b.requires.dims_bound.1
+  meets : b.joined_dims-n.result ≡ meeting_dims b.args.left.shape b.args.right.shape
+  meets = b.joined_dims-n.ensures b.args.left.small b.args.right.small
 
   small : b.joined_dims-n.result ≤ 9
-  small = omega (arith, meets, b.requires.dims_bound.2)
+  small = omega (arith, meets, b.requires.meeting.0)
 
 pub unwrap-requires : goal.unwrap-requires
 unwrap-requires c = let l = small (goal.at.unwrap-requires c).After-joined_dims-n in order_put c.put_order.ensures l (blades_le _ l)

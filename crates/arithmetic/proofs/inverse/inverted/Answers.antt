@@ -18,8 +18,11 @@ returns-in_err-kept_refusal c =
     let p = err_from_is_err_and c.from_residual.result c.from_residual.ensures.1 in
     rw (p.1, p.2) (gives_not_kept a.shape a.a.now a.out.now c.in_err-kept_refusal.field-0.0 c.in_err-kept_refusal.ensures)
 
-pub test_of-requires : goal.test_of-requires
-test_of-requires c = let a = c.args in (kept_accepted a.shape a.a.now (length a.out.now) c.in_ok-kept_refusal.ensures.0).counted
+pub invariant_of-value : goal.invariant_of-value
+invariant_of-value c =
+    let a = c.args in
+    let f = kept_accepted a.shape a.a.now (length a.out.now) c.in_ok-kept_refusal.ensures.0 in
+    record { small = f.small; counted = f.counted }
 
 pub returns-then-was_planar : goal.returns-then-was_planar
 returns-then-was_planar c =
@@ -29,8 +32,7 @@ returns-then-was_planar c =
 pub put_inverse-requires : goal.put_inverse-requires
 put_inverse-requires c =
     let a = c.args in
-    let f = kept_accepted a.shape a.a.now (length a.out.now) c.in_ok-kept_refusal.ensures.0 in
-    record { in_order = passed_none _; dims_bound = (f.small, f.counted, f.roomy) }
+    record { in_order = passed_none _; room = (kept_accepted a.shape a.a.now (length a.out.now) c.in_ok-kept_refusal.ensures.0).roomy }
 
 pub returns : goal.returns
 returns c =

@@ -33,12 +33,12 @@ pub returns-in-Scalar : goal.returns-in-Scalar
 unfolding if_scalar
 returns-in-Scalar c =
     let a = c.args in
-    by_copy a.a.now a.out.now (c.copy_from_slice.new.self ++ drop (length a.a.now) a.out.now) _ c.in-Scalar.q (omega (arith, c.requires.dims_bound.1, pow_pos a.shape.dims)) (ap (λ (xs : List Float). xs ++ drop (length a.a.now) a.out.now) c.copy_from_slice.ensures.after) c.put_by_square.ensures
-    ∙ general_by a.shape a.a.now a.out.now _ c.in-Scalar.ensures
+    by_copy a.value.numbers.now a.out.now (c.copy_from_slice.new.self ++ drop (length a.value.numbers.now) a.out.now) _ c.in-Scalar.q (omega (arith, c.args.value.counted, pow_pos a.value.shape.dims)) (ap (λ (xs : List Float). xs ++ drop (length a.value.numbers.now) a.out.now) c.copy_from_slice.ensures.after) c.put_by_square.ensures
+    ∙ general_by a.value.shape a.value.numbers.now a.out.now _ c.in-Scalar.ensures
 
 pub returns-in_default : goal.returns-in_default
 returns-in_default c =
     let a = c.args in
     c.put_nan.ensures
-    ∙ ap (λ (xs : List Float). laid xs a.out.now) (sym (if_not_scalar c.test_square.result (by_square (get_or a.a.now 0 nan) (less_scalar a.a.now)) _ c.in_default.not-Scalar))
-    ∙ general_by a.shape a.a.now a.out.now _ c.test_square.ensures
+    ∙ ap (λ (xs : List Float). laid xs a.out.now) (sym (if_not_scalar c.test_square.result (by_square (get_or a.value.numbers.now 0 nan) (less_scalar a.value.numbers.now)) _ c.in_default.not-Scalar))
+    ∙ general_by a.value.shape a.value.numbers.now a.out.now _ c.test_square.ensures

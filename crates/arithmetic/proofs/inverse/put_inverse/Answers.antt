@@ -14,12 +14,12 @@ decided s a out u e = ap (λ (v : ScalarTest). laid (inverse_by v s a) out) e
 
 pub returns-in-Scalar : goal.returns-in-Scalar
 unfolding inverse_by
-returns-in-Scalar c = let a = c.args in c.put_reciprocal.ensures ∙ decided a.shape a.a.now a.out.now _ c.in-Scalar.ensures
+returns-in-Scalar c = let a = c.args in c.put_reciprocal.ensures ∙ decided a.value.shape a.value.numbers.now a.out.now _ c.in-Scalar.ensures
 
 pub returns-in-Planar : goal.returns-in-Planar
 unfolding inverse_by
-returns-in-Planar c = let a = c.args in decided a.shape a.a.now a.out.now _ c.in-Planar.ensures
+returns-in-Planar c = let a = c.args in decided a.value.shape a.value.numbers.now a.out.now _ c.in-Planar.ensures
 
 pub returns-in-Neither : goal.returns-in-Neither
 unfolding inverse_by
-returns-in-Neither c = let a = c.args in c.put_general.ensures ∙ decided a.shape a.a.now a.out.now _ c.in-Neither.ensures
+returns-in-Neither c = let a = c.args in c.put_general.ensures ∙ decided a.value.shape a.value.numbers.now a.out.now _ c.in-Neither.ensures

@@ -12,5 +12,5 @@ pub returns : goal.returns
 unfolding of_bits of_fields
 returns c =
     let a = c.args in
-    ap (λ (xs : List Float). set (xs ++ drop (length a.a.now) a.out.now) 0 (reciprocal a.f)) c.copy_from_slice.ensures.after
-    ∙ set_laid 0 (reciprocal a.f) a.a.now a.out.now (omega (arith, c.requires.1, pow_pos a.shape.dims))
+    ap (λ (xs : List Float). set (xs ++ drop (length a.value.numbers.now) a.out.now) 0 (reciprocal a.f)) c.copy_from_slice.ensures.after
+    ∙ set_laid 0 (reciprocal a.f) a.value.numbers.now a.out.now (omega (arith, c.args.value.counted, pow_pos a.value.shape.dims))

@@ -26,4 +26,4 @@ by_itself given s x out after r h f l g =
     ∙ ap (λ (o : Counted). laid o.outcome.coefs out) (multiplied_ordered All s s x x (length out) given (passed_same s given h) ∙ multiplied_same All s x x (length out) f l l)
 
 pub returns : goal.returns
-returns c = by_itself c.args.given.now c.args.shape c.args.x.now c.args.out.now _ _ c.requires.in_order (record { small = c.requires.dims_bound.0; roomy = c.requires.dims_bound.2 }) c.requires.dims_bound.1 c.multiply.ensures
+returns c = by_itself c.args.given.now c.args.value.shape c.args.value.numbers.now c.args.out.now _ _ c.requires.in_order (record { small = c.args.value.small; roomy = c.requires.room }) c.args.value.counted c.multiply.ensures

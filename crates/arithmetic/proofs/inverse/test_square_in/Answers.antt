@@ -40,4 +40,4 @@ pub returns : goal.returns
 returns g c =
     let a = c.args in
     c.test_of.ensures
-    ∙ ap (test_of a.shape) (square_part a.shape a.a.now _ _ c.copy_from_slice.new.self c.copy_from_slice.ensures.after c.requires.dims_bound.1 _ c.put_square.ensures)
+    ∙ ap (test_of a.value.shape) (square_part a.value.shape a.value.numbers.now _ _ c.copy_from_slice.new.self c.copy_from_slice.ensures.after c.args.value.counted _ c.put_square.ensures)

@@ -31,10 +31,11 @@ returns-in_err-operator_refusal c =
     let p = err_from_is_err_and c.from_residual.result c.from_residual.ensures.1 in
     rw (p.1, p.2) (gives_refused _ _ _ _ c.in_err-operator_refusal.ensures)
 
-pub test_of-requires : goal.test_of-requires
-test_of-requires c =
+pub invariant_of-test_of : goal.invariant_of-test_of
+invariant_of-test_of c =
     let a = c.args in
-    (operator_passed a.left a.right a.a.now a.b.now (length a.out.now) c.in_ok-operator_refusal.ensures.0).counted_right
+    let p = operator_passed a.left a.right a.a.now a.b.now (length a.out.now) c.in_ok-operator_refusal.ensures.0 in
+    record { small = p.small_right; counted = p.counted_right }
 
 pub returns-in-Scalar : goal.returns-in-Scalar
 unfolding if_scalar

@@ -75,8 +75,10 @@ returns-in_err-refusal_of c =
     let p = err_from_is_err_and c.from_residual.result c.from_residual.ensures.1 in
     rw (p.1, p.2) (first_refused (goal.at.returns-in_err-refusal_of c).After-refusal_of c.in_err-refusal_of.field-0.0 c.in_err-refusal_of.ensures)
 
-pub test_of-requires : goal.test_of-requires
-test_of-requires c = (fits (goal.at.test_of-requires c).After-refusal_of c.in_ok-refusal_of.ensures.0).counted
+pub invariant_of-test_of : goal.invariant_of-test_of
+invariant_of-test_of c =
+    let f = fits (goal.at.invariant_of-test_of c).After-refusal_of c.in_ok-refusal_of.ensures.0 in
+    record { small = f.small; counted = f.counted }
 
 pub returns-then-was_planar : goal.returns-then-was_planar
 returns-then-was_planar c =

@@ -48,10 +48,8 @@ returns-then-power-eq1 c =
     let a = c.args in
     laid_as a.out.now (raised_one a.shape a.power a.x.now c.if-power-eq1.true) (ap (λ (xs : List Float). xs ++ drop (length a.x.now) a.out.now) c.copy_from_slice.ensures.after)
 
-pub put_square-requires-clause-dims_bound : goal.put_square-requires-clause-dims_bound
-put_square-requires-clause-dims_bound c =
-    let d = dims_two c.args.shape c.args.power c.args.x.now c.if-power-eq1.false c.if-power-eq2.true in
-    (c.requires.power_bound.1, c.requires.x_len.0, room d c.requires.x_len.1)
+pub put_square-requires-clause-room : goal.put_square-requires-clause-room
+put_square-requires-clause-room c = room (dims_two c.args.shape c.args.power c.args.x.now c.if-power-eq1.false c.if-power-eq2.true) c.requires.x_len.1
 
 pub returns-then-power-eq2 : goal.returns-then-power-eq2
 returns-then-power-eq2 c =

@@ -72,15 +72,14 @@ returns-in_err-pair_refusal c =
     (gives_miscounted a.left a.right a.a.now a.b.now (length a.out.now) (is_refused _ tt c.value_refusal.result c.value_refusal.ensures c.if-is_err.ensures.value)
     c.in_err-pair_refusal.field-0.0 a.out.now c.in_err-pair_refusal.ensures)
 
-pub test_of-requires : goal.test_of-requires
-test_of-requires c = (right_fits c).1
+pub invariant_of-value : goal.invariant_of-value
+invariant_of-value c = let f = right_fits c in record { small = f.0; counted = f.1 }
 
 pub mul_inverse-requires : goal.mul_inverse-requires
 unfolding was_planar
 mul_inverse-requires c =
     let a = c.args in
-    let f = right_fits (goal.at.mul_inverse-requires c).Joined-is_err in
-    (f.0, f.1, inverse_length a.right a.b.now f.1 (ap was_planar (sym c.in-Neither.ensures)))
+    inverse_length a.right a.b.now (right_fits (goal.at.mul_inverse-requires c).Joined-is_err).1 (ap was_planar (sym c.in-Neither.ensures))
 
 pub returns-in-Scalar : goal.returns-in-Scalar
 returns-in-Scalar c =

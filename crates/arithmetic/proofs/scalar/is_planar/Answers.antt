@@ -15,11 +15,11 @@ unfolding is_planar
 of_two s a b d e = rw (eq-eqb s.dims 2 d, e)
 
 -- Where the first two tests meet.
-met : (j : Joined-is_vanilla) → j.if-is_vanilla.value ≡ (is_vanilla j.args.shape.flavor && is_zero (get_or j.args.a.now 1 nan))
+met : (j : Joined-is_vanilla) → j.if-is_vanilla.value ≡ (is_vanilla j.args.value.shape.flavor && is_zero (get_or j.args.value.numbers.now 1 nan))
 unfolding of_bits of_fields
 met j =
     let v = j.is_vanilla.ensures in
-    let z = is_zero (get_or j.args.a.now 1 nan) in
+    let z = is_zero (get_or j.args.value.numbers.now 1 nan) in
     elim j.if-is_vanilla.branch [
       | then-is_vanilla w ↦ w.value-is ∙ sym (ap (λ (b : Bool). b && z) (sym v ∙ w.if-is_vanilla.true))
       | else-is_vanilla w ↦ w.value-is ∙ w.if-is_vanilla.false ∙ sym (ap (λ (b : Bool). b && z) (sym v ∙ w.if-is_vanilla.false))
@@ -33,9 +33,9 @@ pub returns-then-a : goal.returns-then-a
 unfolding of_bits of_fields
 returns-then-a c =
     let s = c.args in
-    sym (of_two s.shape s.a.now _ c.if-shape-ne2.false (sym (met (goal.at.returns-then-a c).Joined-is_vanilla) ∙ c.if-a.true))
+    sym (of_two s.value.shape s.value.numbers.now _ c.if-shape-ne2.false (sym (met (goal.at.returns-then-a c).Joined-is_vanilla) ∙ c.if-a.true))
 
 pub returns-else-a : goal.returns-else-a
 returns-else-a c =
     let s = c.args in
-    c.if-a.false ∙ sym (of_two s.shape s.a.now _ c.if-shape-ne2.false (sym (met (goal.at.returns-else-a c).Joined-is_vanilla) ∙ c.if-a.false))
+    c.if-a.false ∙ sym (of_two s.value.shape s.value.numbers.now _ c.if-shape-ne2.false (sym (met (goal.at.returns-else-a c).Joined-is_vanilla) ∙ c.if-a.false))
