@@ -86,7 +86,8 @@ fn raise_in(
     out: &mut [f64],
 )
     requires in_order { InOrder given.now value.shape.dims × InOrder wide.now (value.shape.dims + added_dims value.shape.flavor) }
-    requires flavor_bound { (value.shape.dims + added_dims value.shape.flavor ≤ 9) × (power < 2 ^ 31) × (length value.numbers.now ≤ length base.old) × (2 ^ (value.shape.dims + added_dims value.shape.flavor) ≤ length next.old) }
+    requires flavor_bound { (value.shape.dims + added_dims value.shape.flavor ≤ 9) × (power < 2 ^ 31) }
+    requires in_bounds { (length value.numbers.now ≤ length base.old) × (2 ^ (value.shape.dims + added_dims value.shape.flavor) ≤ length next.old) }
     requires room { 2 ^ (value.shape.dims + added_dims value.shape.flavor) ≤ length out.old }
     ensures { out.new ≡ laid (by_digits value.entry.shape power value.entry.numbers.now) out.old }
 {
@@ -169,7 +170,8 @@ fn raise(given: &[u16], value: Value, power: u32, out: &mut [f64])
 // x's inverse to the power. The array for the inverse holds N numbers.
 fn raise_inverse<const N: usize>(given: &[u16], value: Value, power: u32, out: &mut [f64])
     requires in_order { InOrder given.now value.shape.dims }
-    requires power_bound { (power_dims value.shape power ≤ 9) × (power < 2 ^ 31) × (was_planar (test_of value.shape value.numbers.now) ≡ false) }
+    requires power_bound { (power_dims value.shape power ≤ 9) × (power < 2 ^ 31) }
+    requires invertible { was_planar (test_of value.shape value.numbers.now) ≡ false }
     requires room { (length value.numbers.now ≤ N) × (2 ^ power_dims value.shape power ≤ length out.old) × (N ≤ 512) }
     ensures { out.new ≡ laid (raised_to value.entry.shape power (inverse_of value.entry.shape value.entry.numbers.now)) out.old }
 {
@@ -183,7 +185,8 @@ fn raise_inverse<const N: usize>(given: &[u16], value: Value, power: u32, out: &
 // A power of a value that is not refused, with the order of its dimensions.
 fn put_power_by(given: &[u16], value: Value, power: i32, out: &mut [f64])
     requires in_order { InOrder given.now value.shape.dims }
-    requires power_bound { (power_dims value.shape (size_of power) ≤ 9) × (size_of power < 2 ^ 31) × ((is_negative power && was_planar (test_of value.shape value.numbers.now)) ≡ false) }
+    requires power_bound { (power_dims value.shape (size_of power) ≤ 9) × (size_of power < 2 ^ 31) }
+    requires invertible { (is_negative power && was_planar (test_of value.shape value.numbers.now)) ≡ false }
     requires room { 2 ^ power_dims value.shape (size_of power) ≤ length out.old }
     ensures { out.new ≡ laid (power_of value.entry.shape power value.entry.numbers.now) out.old }
 {
@@ -199,7 +202,8 @@ fn put_power_by(given: &[u16], value: Value, power: i32, out: &mut [f64])
 
 // The same, with the order of its dimensions, which is built here, once, where more than one product reads it, in an array of N masks.
 fn put_power_in<const N: usize>(value: Value, power: i32, out: &mut [f64])
-    requires power_bound { (power_dims value.shape (size_of power) ≤ 9) × (size_of power < 2 ^ 31) × ((is_negative power && was_planar (test_of value.shape value.numbers.now)) ≡ false) }
+    requires power_bound { (power_dims value.shape (size_of power) ≤ 9) × (size_of power < 2 ^ 31) }
+    requires invertible { (is_negative power && was_planar (test_of value.shape value.numbers.now)) ≡ false }
     requires room { (2 ^ power_dims value.shape (size_of power) ≤ length out.old) × (length value.numbers.now ≤ N) × (N ≤ 512) }
     ensures { out.new ≡ laid (power_of value.entry.shape power value.entry.numbers.now) out.old }
 {
@@ -210,7 +214,8 @@ fn put_power_in<const N: usize>(value: Value, power: i32, out: &mut [f64])
 
 // A power of a value that is not refused, in arrays as long as the dimensions want.
 fn put_power(value: Value, power: i32, out: &mut [f64])
-    requires power_bound { (power_dims value.shape (size_of power) ≤ 9) × (size_of power < 2 ^ 31) × ((is_negative power && was_planar (test_of value.shape value.numbers.now)) ≡ false) }
+    requires power_bound { (power_dims value.shape (size_of power) ≤ 9) × (size_of power < 2 ^ 31) }
+    requires invertible { (is_negative power && was_planar (test_of value.shape value.numbers.now)) ≡ false }
     requires room { 2 ^ power_dims value.shape (size_of power) ≤ length out.old }
     ensures { out.new ≡ laid (power_of value.entry.shape power value.entry.numbers.now) out.old }
 {

@@ -236,21 +236,21 @@ pub mul_front-requires-clause-room : goal.mul_front-requires-clause-room
 mul_front-requires-clause-room c =
     let p = c.requires in
     let d = ap (λ (u : Shape). u.dims) (shape_is (goal.at.mul_front-requires-clause-room c).At-loop-p) in
-    (room d p.room (c.loop-p.auto.out ∙ c.scalar.auto.out), room d p.flavor_bound.3 c.loop-p.auto.next)
+    (room d p.room (c.loop-p.auto.out ∙ c.scalar.auto.out), room d p.in_bounds.1 c.loop-p.auto.next)
 
 pub invariant_of-mul_front : goal.invariant_of-mul_front
 invariant_of-mul_front c =
     let v = c.args.value in
-    let l = base_long v.numbers.now c.args.base.now c.copy_from_slice.new.self c.copy_from_slice.ensures.after c.requires.flavor_bound.2 in
-    let e : length v.numbers.now ≤ length c.loop-p.base = omega (arith, c.requires.flavor_bound.2, c.loop-p.auto.base, l) in
+    let l = base_long v.numbers.now c.args.base.now c.copy_from_slice.new.self c.copy_from_slice.ensures.after c.requires.in_bounds.0 in
+    let e : length v.numbers.now ≤ length c.loop-p.base = omega (arith, c.requires.in_bounds.0, c.loop-p.auto.base, l) in
     record { small = v.small; counted = length-take-le _ c.loop-p.base e ∙ v.counted }
 
 pub square_front-requires-clause-dims_bound : goal.square_front-requires-clause-dims_bound
 square_front-requires-clause-dims_bound c =
     let p = c.requires in
     let m = base_room c.args.value.shape.dims (grown c.args.value.shape).dims (omega arith) in
-    let l = base_long c.args.value.numbers.now c.args.base.now c.copy_from_slice.new.self c.copy_from_slice.ensures.after p.flavor_bound.2 in
-    (c.args.value.small, c.args.value.counted, omega (arith, p.flavor_bound.2, c.loop-p.auto.base, l), omega (arith, m, c.args.value.counted, p.flavor_bound.3, c.if-p-eq1.auto.next, c.loop-p.auto.next))
+    let l = base_long c.args.value.numbers.now c.args.base.now c.copy_from_slice.new.self c.copy_from_slice.ensures.after p.in_bounds.0 in
+    (c.args.value.small, c.args.value.counted, omega (arith, p.in_bounds.0, c.loop-p.auto.base, l), omega (arith, m, c.args.value.counted, p.in_bounds.1, c.if-p-eq1.auto.next, c.loop-p.auto.next))
 
 pub loop-p-preserved-then-p-gt0 : goal.loop-p-preserved-then-p-gt0
 loop-p-preserved-then-p-gt0 c =

@@ -21,4 +21,4 @@ pub returns : goal.returns
 returns g c =
     let a = c.args in
     let l = a.value.counted in
-    raised_of a.value.shape a.power a.value.numbers.now _ _ a.out.now _ l (inverse_length a.value.shape a.value.numbers.now l c.requires.power_bound.2) c.put_inverse.ensures c.raise.ensures
+    raised_of a.value.shape a.power a.value.numbers.now _ _ a.out.now _ l (inverse_length a.value.shape a.value.numbers.now l c.requires.invertible) c.put_inverse.ensures c.raise.ensures
