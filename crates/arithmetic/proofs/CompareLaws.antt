@@ -3,7 +3,7 @@ use mathlib.Core.Path.{◌≡◌, refl, sym, ap, ap₂, ◌∙◌}
 use mathlib.Core.Bool.{Bool, beq, true, false, ◌&&◌, ◌||◌, cond, false≢true}
 use mathlib.Core.List.{List, [], ◌∷◌}
 use mathlib.Core.Logic.{◌⊎◌, ⊎_elim, inl, inr}
-use Prim.Native.Nat.{ℕ, zero, suc, ◌+◌, ◌-◌, ◌*◌, ◌^◌, ◌≤◌, ◌<◌}
+use Prim.Native.Nat.{ℕ, zero, suc, ◌+◌, ◌-◌, ◌*◌, ◌≤◌, ◌<◌}
 use native.Mathlib.Nat.{suc_inj, suc-mul, zero-mul}
 use native.Mathlib.Numerals.{add-one}
 use native.Mathlib.Omega.{arith}
@@ -13,11 +13,11 @@ use lib.IntN.{ℤ, pos, negsuc}
 use lib.ListN.{length, get_or, drop, length-drop, drop_of_length-le}
 use lib.Pow.{pow_pos}
 use lib.Seq.{drop-cons, drop-drop}
-use borrow.Author.Tests.{ne_eqb, eqb-true, eqb-false, le-ltb, not-false}
+use borrow.Author.Tests.{ne_eqb, eqb-true, ltb-false, eqb-false, le-ltb, not-false}
 use Rattle.masks.specs.declared.flavor.Flavor.TheVariants.{Vanilla}
 use Rattle.masks.specs.declared.shape.Shape.{Shape}
 use Rattle.masks.specs.Outcome.{refusal, too_many, wrong_count, unless, shape_of, nought}
-use Rattle.masks.proofs.OutcomeLaws.{past, unless_done}
+use Rattle.masks.proofs.OutcomeLaws.{Valued, past, unless_done}
 use Rattle.std.specs.Prelude.{Option, None, Some}
 use Rattle.std.specs.Option.{unwrap_or, is_some}
 use Rattle.std.specs.Ordering.{float_partial_cmp}
@@ -304,13 +304,15 @@ scalar_some [] e = absurd (false≢true e)
 scalar_some (x ∷ a) e = omega arith
 
 -- Two values that are not refused have the numbers of their dimensions.
-pub both_counted : (s t : Shape) (a b : List Float) → refusal (compared_tests s t a b) ≡ 0 → (length a ≡ 2 ^ s.dims) × (length b ≡ 2 ^ t.dims)
-both_counted s t a b z =
+pub both_valued : (s t : Shape) (a b : List Float) → refusal (compared_tests s t a b) ≡ 0 → Valued s.dims (length a) × Valued t.dims (length b)
+both_valued s t a b z =
     let p = past (too_many s.dims) _ (λ q. omega arith) z in
     let q = past (too_many t.dims) _ (λ q. omega arith) p.1 in
     let l = past (wrong_count (length a) s.dims) _ (λ q. omega arith) q.1 in
-    let r = past (wrong_count (length b) t.dims) _ (λ q. omega arith) l.1 in
-    (eqb-true _ _ (not-false _ l.0), eqb-true _ _ (not-false _ r.0))
+    let r = past (wrong_count (length b) t.dims) _ (λ q. omega arith) l.1 in (
+      record { small = ltb-false _ _ p.0; counted = eqb-true _ _ (not-false _ l.0) },
+      record { small = ltb-false _ _ q.0; counted = eqb-true _ _ (not-false _ r.0) },
+    )
 
 -- ---- two values, by whether they are scalar
 

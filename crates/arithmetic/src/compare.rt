@@ -1,5 +1,5 @@
 // Equality and order, as the reference has them.
-ghost use Rattle.std.specs.Prelude.{◌≡◌, true, ◌&&◌, ◌||◌, ◌^◌, ◌≤◌, ◌<◌, length, get_or, drop};
+ghost use Rattle.std.specs.Prelude.{◌≡◌, true, ◌&&◌, ◌||◌, ◌≤◌, ◌<◌, length, get_or, drop};
 ghost use Rattle.std.specs.Float.{nan};
 ghost use Rattle.std.specs.Float.Ieee.{eq};
 ghost use Rattle.masks.specs.declared.flavor.Flavor.TheVariants.{Vanilla};
@@ -8,6 +8,7 @@ ghost use Rattle.arithmetic.specs.Scalar.{is_scalar, test_of};
 ghost use Rattle.arithmetic.specs.Compare.{compared_tests, answers_agree, same_number, same_places, equals, compared_nans, compared_numbers, compared_places, compared_lists, compared_by, compared};
 
 use super::scalar::is_scalar;
+use super::value::Value;
 use masks::flavor::Flavor;
 use masks::outcome::{Refusal, pair_refusal, shape_of};
 use masks::shape::Shape;
@@ -144,10 +145,11 @@ fn compare_counts(a: &[f64], b: &[f64]) -> Ordering
 }
 
 // The order of two values that are not refused. Where the counts are equal the first place that differs decides between scalars too.
-fn compare_values(left: Shape, right: Shape, a: &[f64], b: &[f64]) -> Ordering
-    requires { (length a.now ≡ 2 ^ left.dims) × (length b.now ≡ 2 ^ right.dims) }
-    ensures { result ≡ compared_by (test_of left a.now) (test_of right b.now) a.now b.now }
+fn compare_values(left: Value, right: Value) -> Ordering
+    ensures { result ≡ compared_by (test_of left.entry.shape left.entry.numbers.now) (test_of right.entry.shape right.entry.numbers.now) left.entry.numbers.now right.entry.numbers.now }
 {
+    let a = left.numbers;
+    let b = right.numbers;
     if a.len() == b.len() {
         return compare_places(a, b);
     }
@@ -165,5 +167,13 @@ pub fn cmp(left: Shape, right: Shape, a: &[f64], b: &[f64]) -> Result<Ordering, 
     ensures { IsAnswer (compared left right a.now b.now).number (compared left right a.now b.now).order result }
 {
     compare_refusal(left, right, a, b)?;
-    Ok(compare_values(left, right, a, b))
+    let value = Value {
+        shape: left,
+        numbers: a,
+    };
+    let value_right = Value {
+        shape: right,
+        numbers: b,
+    };
+    Ok(compare_values(value, value_right))
 }

@@ -52,21 +52,14 @@ fn power_refusal(shape: Shape, power: i32, a: &[f64], room: usize) -> Result<(),
 }
 
 // The value in the front of the output becomes itself `*` the base. An array for the product is lent.
-fn mul_front(
-    given: &[u16],
-    grown: Shape,
-    shape: Shape,
-    x: &[f64],
-    next: &mut [f64],
-    out: &mut [f64],
-)
+fn mul_front(given: &[u16], grown: Shape, base: Value, next: &mut [f64], out: &mut [f64])
     requires in_order { InOrder given.now grown.dims }
-    requires grown_value { (grown ≡ with_dims shape (shape.dims + added_dims shape.flavor)) × (grown.dims ≤ 9) }
-    requires x_len { (length x.now ≡ 2 ^ shape.dims) × (2 ^ grown.dims ≤ length out.old) × (2 ^ grown.dims ≤ length next.old) }
-    ensures { out.new ≡ laid (multiplication grown shape (take (2 ^ grown.dims) out.old) x.now 512).coefs out.old }
+    requires grown_value { (grown ≡ with_dims base.shape (base.shape.dims + added_dims base.shape.flavor)) × (grown.dims ≤ 9) }
+    requires room { (2 ^ grown.dims ≤ length out.old) × (2 ^ grown.dims ≤ length next.old) }
+    ensures { out.new ≡ laid (multiplication grown base.entry.shape (take (2 ^ grown.dims) out.old) base.entry.numbers.now 512).coefs out.old }
 {
     let n = blades_or_none(grown.dims);
-    let _ = mul_by(given, grown, shape, &out[..n], x, next);
+    let _ = mul_by(given, grown, base.shape, &out[..n], base.numbers, next);
     out[..n].copy_from_slice(&next[..n]);
 }
 
@@ -76,14 +69,8 @@ fn square_front(given: &[u16], shape: Shape, n: usize, next: &mut [f64], base: &
     requires dims_bound { (shape.dims ≤ 9) × (n ≡ 2 ^ shape.dims) × (n ≤ length base.old) × (n ≤ length next.old) }
     ensures { base.new ≡ laid (square_of shape (take n base.old)) base.old }
 {
-    put_square(
-        given,
-        Value {
-            shape,
-            numbers: &base[..n],
-        },
-        next,
-    );
+    let numbers = &base[..n];
+    put_square(given, Value { shape, numbers }, next);
     base[..n].copy_from_slice(&next[..n]);
 }
 
@@ -92,24 +79,26 @@ fn square_front(given: &[u16], shape: Shape, n: usize, next: &mut [f64], base: &
 fn raise_in(
     given: &[u16],
     wide: &[u16],
-    shape: Shape,
+    value: Value,
     power: u32,
-    x: &[f64],
     base: &mut [f64],
     next: &mut [f64],
     out: &mut [f64],
 )
-    requires in_order { InOrder given.now shape.dims × InOrder wide.now (shape.dims + added_dims shape.flavor) }
-    requires flavor_bound { (shape.dims + added_dims shape.flavor ≤ 9) × (power < 2 ^ 31) × (length x.now ≤ length base.old) × (2 ^ (shape.dims + added_dims shape.flavor) ≤ length next.old) }
-    requires x_len { (length x.now ≡ 2 ^ shape.dims) × (2 ^ (shape.dims + added_dims shape.flavor) ≤ length out.old) }
-    ensures { out.new ≡ laid (by_digits shape power x.now) out.old }
+    requires in_order { InOrder given.now value.shape.dims × InOrder wide.now (value.shape.dims + added_dims value.shape.flavor) }
+    requires flavor_bound { (value.shape.dims + added_dims value.shape.flavor ≤ 9) × (power < 2 ^ 31) }
+    requires in_bounds { (length value.numbers.now ≤ length base.old) × (2 ^ (value.shape.dims + added_dims value.shape.flavor) ≤ length next.old) }
+    requires room { 2 ^ (value.shape.dims + added_dims value.shape.flavor) ≤ length out.old }
+    ensures { out.new ≡ laid (by_digits value.entry.shape power value.entry.numbers.now) out.old }
 {
+    let Value { shape, numbers: x } = value;
     let grown = scalar(shape.dims, 1.0, shape.flavor, out).unwrap();
     base[..x.len()].copy_from_slice(x);
     let mut p = power;
     while 0 < p {
         if p % 2 == 1 {
-            mul_front(wide, grown, shape, &base[..x.len()], next, out);
+            let numbers = &base[..x.len()];
+            mul_front(wide, grown, Value { shape, numbers }, next, out);
         }
         p = p / 2;
         if 0 < p {
@@ -122,120 +111,120 @@ fn raise_in(
 // holds BASE numbers, those for that order and for what comes next WIDE.
 fn raise_wide<const BASE: usize, const WIDE: usize>(
     given: &[u16],
-    shape: Shape,
+    value: Value,
     power: u32,
-    x: &[f64],
     out: &mut [f64],
 )
-    requires in_order { InOrder given.now shape.dims }
-    requires flavor_bound { (shape.dims + added_dims shape.flavor ≤ 9) × (power < 2 ^ 31) × (2 ^ (shape.dims + added_dims shape.flavor) ≤ WIDE) }
-    requires x_in_bounds { (length x.now ≤ BASE) × (BASE ≤ 512) × (WIDE ≤ 512) }
-    requires x_len { (length x.now ≡ 2 ^ shape.dims) × (2 ^ (shape.dims + added_dims shape.flavor) ≤ length out.old) }
-    ensures { out.new ≡ laid (by_digits shape power x.now) out.old }
+    requires in_order { InOrder given.now value.shape.dims }
+    requires flavor_bound { (value.shape.dims + added_dims value.shape.flavor ≤ 9) × (power < 2 ^ 31) × (2 ^ (value.shape.dims + added_dims value.shape.flavor) ≤ WIDE) }
+    requires in_bounds { (length value.numbers.now ≤ BASE) × (BASE ≤ 512) × (WIDE ≤ 512) }
+    requires room { 2 ^ (value.shape.dims + added_dims value.shape.flavor) ≤ length out.old }
+    ensures { out.new ≡ laid (by_digits value.entry.shape power value.entry.numbers.now) out.old }
 {
     let mut base = [0.0; BASE];
     let mut next = [0.0; WIDE];
-    let added = shape.flavor.added_dims();
+    let added = value.shape.flavor.added_dims();
     if added == 0 {
-        raise_in(given, given, shape, power, x, &mut base, &mut next, out);
+        raise_in(given, given, value, power, &mut base, &mut next, out);
         return;
     }
     let mut order = [0; WIDE];
-    put_order(shape.dims + added, &mut order).unwrap();
-    raise_in(given, &order, shape, power, x, &mut base, &mut next, out);
+    put_order(value.shape.dims + added, &mut order).unwrap();
+    raise_in(given, &order, value, power, &mut base, &mut next, out);
 }
 
 // The same, in arrays as long as the dimensions want.
-fn raise_by_digits(given: &[u16], shape: Shape, power: u32, x: &[f64], out: &mut [f64])
-    requires in_order { InOrder given.now shape.dims }
-    requires flavor_bound { (shape.dims + added_dims shape.flavor ≤ 9) × (power < 2 ^ 31) }
-    requires x_len { (length x.now ≡ 2 ^ shape.dims) × (2 ^ (shape.dims + added_dims shape.flavor) ≤ length out.old) }
-    ensures { out.new ≡ laid (by_digits shape power x.now) out.old }
+fn raise_by_digits(given: &[u16], value: Value, power: u32, out: &mut [f64])
+    requires in_order { InOrder given.now value.shape.dims }
+    requires flavor_bound { (value.shape.dims + added_dims value.shape.flavor ≤ 9) × (power < 2 ^ 31) }
+    requires room { 2 ^ (value.shape.dims + added_dims value.shape.flavor) ≤ length out.old }
+    ensures { out.new ≡ laid (by_digits value.entry.shape power value.entry.numbers.now) out.old }
 {
-    if x.len() <= 32 {
-        raise_wide::<32, 64>(given, shape, power, x, out);
+    if value.numbers.len() <= 32 {
+        raise_wide::<32, 64>(given, value, power, out);
     } else {
-        raise_wide::<512, 512>(given, shape, power, x, out);
+        raise_wide::<512, 512>(given, value, power, out);
     }
 }
 
 // x to the power.
 #[tactic(auto, using(crate::proofs::PowerLaws::first_fits, crate::proofs::PowerLaws::first_taken))]
-fn raise(given: &[u16], shape: Shape, power: u32, x: &[f64], out: &mut [f64])
-    requires in_order { InOrder given.now shape.dims }
-    requires power_bound { (power_dims shape power ≤ 9) × (shape.dims ≤ 9) × (power < 2 ^ 31) }
-    requires x_len { (length x.now ≡ 2 ^ shape.dims) × (2 ^ power_dims shape power ≤ length out.old) }
-    ensures { out.new ≡ laid (raised_to shape power x.now) out.old }
+fn raise(given: &[u16], value: Value, power: u32, out: &mut [f64])
+    requires in_order { InOrder given.now value.shape.dims }
+    requires power_bound { (power_dims value.shape power ≤ 9) × (power < 2 ^ 31) }
+    requires room { 2 ^ power_dims value.shape power ≤ length out.old }
+    ensures { out.new ≡ laid (raised_to value.entry.shape power value.entry.numbers.now) out.old }
 {
     if power == 1 {
+        let x = value.numbers;
         out[..x.len()].copy_from_slice(x);
         return;
     }
     if power == 2 {
-        put_square(given, Value { shape, numbers: x }, out);
+        put_square(given, value, out);
         return;
     }
-    raise_by_digits(given, shape, power, x, out);
+    raise_by_digits(given, value, power, out);
 }
 
 // x's inverse to the power. The array for the inverse holds N numbers.
-fn raise_inverse<const N: usize>(
-    given: &[u16],
-    shape: Shape,
-    power: u32,
-    a: &[f64],
-    out: &mut [f64],
-)
-    requires in_order { InOrder given.now shape.dims }
-    requires power_bound { (power_dims shape power ≤ 9) × (shape.dims ≤ 9) × (power < 2 ^ 31) × (was_planar (test_of shape a.now) ≡ false) }
-    requires a_len { (length a.now ≡ 2 ^ shape.dims) × (length a.now ≤ N) × (2 ^ power_dims shape power ≤ length out.old) × (N ≤ 512) }
-    ensures { out.new ≡ laid (raised_to shape power (inverse_of shape a.now)) out.old }
+fn raise_inverse<const N: usize>(given: &[u16], value: Value, power: u32, out: &mut [f64])
+    requires in_order { InOrder given.now value.shape.dims }
+    requires power_bound { (power_dims value.shape power ≤ 9) × (power < 2 ^ 31) }
+    requires invertible { was_planar (test_of value.shape value.numbers.now) ≡ false }
+    requires room { (length value.numbers.now ≤ N) × (2 ^ power_dims value.shape power ≤ length out.old) × (N ≤ 512) }
+    ensures { out.new ≡ laid (raised_to value.entry.shape power (inverse_of value.entry.shape value.entry.numbers.now)) out.old }
 {
     let mut base = [0.0; N];
-    put_inverse(given, Value { shape, numbers: a }, &mut base);
-    raise(given, shape, power, &base[..a.len()], out);
+    put_inverse(given, value, &mut base);
+    let shape = value.shape;
+    let numbers = &base[..value.numbers.len()];
+    raise(given, Value { shape, numbers }, power, out);
 }
 
 // A power of a value that is not refused, with the order of its dimensions.
-fn put_power_by(given: &[u16], shape: Shape, power: i32, a: &[f64], out: &mut [f64])
-    requires in_order { InOrder given.now shape.dims }
-    requires power_bound { (power_dims shape (size_of power) ≤ 9) × (shape.dims ≤ 9) × (size_of power < 2 ^ 31) × ((is_negative power && was_planar (test_of shape a.now)) ≡ false) }
-    requires a_len { (length a.now ≡ 2 ^ shape.dims) × (2 ^ power_dims shape (size_of power) ≤ length out.old) }
-    ensures { out.new ≡ laid (power_of shape power a.now) out.old }
+fn put_power_by(given: &[u16], value: Value, power: i32, out: &mut [f64])
+    requires in_order { InOrder given.now value.shape.dims }
+    requires power_bound { (power_dims value.shape (size_of power) ≤ 9) × (size_of power < 2 ^ 31) }
+    requires invertible { (is_negative power && was_planar (test_of value.shape value.numbers.now)) ≡ false }
+    requires room { 2 ^ power_dims value.shape (size_of power) ≤ length out.old }
+    ensures { out.new ≡ laid (power_of value.entry.shape power value.entry.numbers.now) out.old }
 {
     let n = power.unsigned_abs();
     if 0 <= power {
-        raise(given, shape, n, a, out);
-    } else if a.len() <= 64 {
-        raise_inverse::<64>(given, shape, n, a, out);
+        raise(given, value, n, out);
+    } else if value.numbers.len() <= 64 {
+        raise_inverse::<64>(given, value, n, out);
     } else {
-        raise_inverse::<512>(given, shape, n, a, out);
+        raise_inverse::<512>(given, value, n, out);
     }
 }
 
 // The same, with the order of its dimensions, which is built here, once, where more than one product reads it, in an array of N masks.
-fn put_power_in<const N: usize>(shape: Shape, power: i32, a: &[f64], out: &mut [f64])
-    requires power_bound { (power_dims shape (size_of power) ≤ 9) × (shape.dims ≤ 9) × (size_of power < 2 ^ 31) × ((is_negative power && was_planar (test_of shape a.now)) ≡ false) }
-    requires a_len { (length a.now ≡ 2 ^ shape.dims) × (2 ^ power_dims shape (size_of power) ≤ length out.old) × (length a.now ≤ N) × (N ≤ 512) }
-    ensures { out.new ≡ laid (power_of shape power a.now) out.old }
+fn put_power_in<const N: usize>(value: Value, power: i32, out: &mut [f64])
+    requires power_bound { (power_dims value.shape (size_of power) ≤ 9) × (size_of power < 2 ^ 31) }
+    requires invertible { (is_negative power && was_planar (test_of value.shape value.numbers.now)) ≡ false }
+    requires room { (2 ^ power_dims value.shape (size_of power) ≤ length out.old) × (length value.numbers.now ≤ N) × (N ≤ 512) }
+    ensures { out.new ≡ laid (power_of value.entry.shape power value.entry.numbers.now) out.old }
 {
     let mut order = [0; N];
-    put_order(shape.dims, &mut order).unwrap();
-    put_power_by(&order, shape, power, a, out);
+    put_order(value.shape.dims, &mut order).unwrap();
+    put_power_by(&order, value, power, out);
 }
 
 // A power of a value that is not refused, in arrays as long as the dimensions want.
-fn put_power(shape: Shape, power: i32, a: &[f64], out: &mut [f64])
-    requires power_bound { (power_dims shape (size_of power) ≤ 9) × (shape.dims ≤ 9) × (size_of power < 2 ^ 31) × ((is_negative power && was_planar (test_of shape a.now)) ≡ false) }
-    requires a_len { (length a.now ≡ 2 ^ shape.dims) × (2 ^ power_dims shape (size_of power) ≤ length out.old) }
-    ensures { out.new ≡ laid (power_of shape power a.now) out.old }
+fn put_power(value: Value, power: i32, out: &mut [f64])
+    requires power_bound { (power_dims value.shape (size_of power) ≤ 9) × (size_of power < 2 ^ 31) }
+    requires invertible { (is_negative power && was_planar (test_of value.shape value.numbers.now)) ≡ false }
+    requires room { 2 ^ power_dims value.shape (size_of power) ≤ length out.old }
+    ensures { out.new ≡ laid (power_of value.entry.shape power value.entry.numbers.now) out.old }
 {
     if -2 < power && power < 3 {
-        put_power_by(&[], shape, power, a, out);
-    } else if a.len() <= 64 {
-        put_power_in::<64>(shape, power, a, out);
+        put_power_by(&[], value, power, out);
+    } else if value.numbers.len() <= 64 {
+        put_power_in::<64>(value, power, out);
     } else {
-        put_power_in::<512>(shape, power, a, out);
+        put_power_in::<512>(value, power, out);
     }
 }
 
@@ -244,6 +233,6 @@ pub fn powi(shape: Shape, exponent: i32, a: &[f64], out: &mut [f64]) -> Result<S
     ensures { Gives (power shape exponent a.now (length out.old)) result out.old out.new }
 {
     power_refusal(shape, exponent, a, out.len())?;
-    put_power(shape, exponent, a, out);
+    put_power(Value { shape, numbers: a }, exponent, out);
     Ok(shape.with_dims(power_dims(shape, exponent)))
 }

@@ -1,21 +1,29 @@
 use mathlib.Core.Path.{◌≡◌, sym, ap, ◌∙◌, subst}
-use mathlib.Core.List.{List}
 use Prim.Native.Nat.{ℕ, ◌^◌, ◌≤◌}
 use native.Mathlib.Omega.{arith}
-use lib.Ieee.{Float}
 use lib.ListN.{length}
 use lib.Seq.{length-take-le}
 use Rattle.masks.proofs.OrderLaws.{none_counted}
-use Rattle.masks.specs.declared.shape.Shape.{Shape}
 use Rattle.masks.specs.Order.{blades_or_none}
 use Rattle.masks.specs.Shape.{meeting_dims}
 use Rattle.arithmetic.specs.inner.Given.{InOrder}
 use Rattle.arithmetic.proofs.DualRegressive.{Meets, meeting_shape, never_refused, gives_regressive}
 use Rattle.arithmetic.proofs.OrderPassed.{array_room}
+use Rattle.arithmetic.proofs.dual.regressive_in.Goals.{Start, In_ok-p}
 use Rattle.arithmetic.proofs.dual.regressive_in.Goals as goal
 
-met : (s t : Shape) (a b : List Float) (room : ℕ) → s.dims ≤ 9 → t.dims ≤ 9 → length a ≡ 2 ^ s.dims → length b ≡ 2 ^ t.dims → (meeting_dims s t ≤ 9) × (2 ^ meeting_dims s t ≤ room) → Meets s t a b room
-met s t a b room h k c d m = record { small = h; small_right = k; result = m.0; counted = c; counted_right = d; roomy = m.1 }
+-- What the call rests on.
+met : {g : _} (c : Start g) → let a = c.args in Meets a.left.shape a.right.shape a.left.numbers.now a.right.numbers.now (length a.out.now)
+met c =
+    let a = c.args in
+    let m = c.requires.meeting in
+    record { small = a.left.small; small_right = a.right.small; result = m.0; counted = a.left.counted; counted_right = a.right.counted; roomy = m.1 }
+
+-- The product's dimensions are those that the values meet in.
+same : {g : _} (c : In_ok-p g) → let a = c.args in Meets a.left.shape a.right.shape a.left.numbers.now a.right.numbers.now (length a.out.now) → c.in_ok-p.p.shape.dims ≡ meeting_dims a.left.shape a.right.shape
+same c m =
+    let a = c.args in
+    meeting_shape a.left.shape a.right.shape a.left.numbers.now a.right.numbers.now (length a.out.now) m a.joined.now c.requires.in_order.2 _ _ _ _ _ _ (array_room _ c.requires.room.2) c.put_dual.ensures c.put_dual-2.ensures c.in_ok-p.p c.in_ok-p.ensures
 
 -- The product's dimensions d are the n that the values meet in, so the product has m numbers, and the third array room for them.
 module _ (d n m : ℕ) (e : d ≡ n) (h : n ≤ 9) (k : m ≡ blades_or_none d) where
@@ -35,35 +43,23 @@ returns-in_err-p g c =
     let t = a.right.shape in
     let x = a.left.numbers.now in
     let y = a.right.numbers.now in
-    absurd (never_refused s t x y (length a.out.now) (met s t x y (length a.out.now) a.left.small a.right.small a.left.counted a.right.counted c.requires.meeting) a.joined.now c.requires.in_order.2 _ _ _ _ _ _ (array_room _ c.requires.room.2) c.put_dual.ensures c.put_dual-2.ensures c.in_err-p.field-0.0 c.in_err-p.ensures)
+    absurd (never_refused s t x y (length a.out.now) (met (goal.at.returns-in_err-p g c).Start) a.joined.now c.requires.in_order.2 _ _ _ _ _ _ (array_room _ c.requires.room.2) c.put_dual.ensures c.put_dual-2.ensures c.in_err-p.field-0.0 c.in_err-p.ensures)
 
 pub shared_whole_as_front-numbers : goal.shared_whole_as_front-numbers
 shared_whole_as_front-numbers g c =
-    let a = c.args in
-    let s = a.left.shape in
-    let t = a.right.shape in
-    let x = a.left.numbers.now in
-    let y = a.right.numbers.now in
-    let d = meeting_shape s t x y (length a.out.now) (met s t x y (length a.out.now) a.left.small a.right.small a.left.counted a.right.counted c.requires.meeting) a.joined.now c.requires.in_order.2 _ _ _ _ _ _ (array_room _ c.requires.room.2) c.put_dual.ensures c.put_dual-2.ensures c.in_ok-p.p c.in_ok-p.ensures in
+    let at = goal.at.shared_whole_as_front-numbers g c in
+    let d = same at.In_ok-p (met at.Start) in
     (within _ _ _ d c.requires.meeting.0 c.blades_or_none.ensures _ c.requires.room.2, omega (arith, c.requires.room.4))
 
 pub put_antidual-requires-clause-in_order : goal.put_antidual-requires-clause-in_order
 put_antidual-requires-clause-in_order g c =
-    let a = c.args in
-    let s = a.left.shape in
-    let t = a.right.shape in
-    let x = a.left.numbers.now in
-    let y = a.right.numbers.now in
-    subst (InOrder a.joined.now) (sym (meeting_shape s t x y (length a.out.now) (met s t x y (length a.out.now) a.left.small a.right.small a.left.counted a.right.counted c.requires.meeting) a.joined.now c.requires.in_order.2 _ _ _ _ _ _ (array_room _ c.requires.room.2) c.put_dual.ensures c.put_dual-2.ensures c.in_ok-p.p c.in_ok-p.ensures)) c.requires.in_order.2
+    let at = goal.at.put_antidual-requires-clause-in_order g c in
+    subst (InOrder c.args.joined.now) (sym (same at.In_ok-p (met at.Start))) c.requires.in_order.2
 
 pub invariant_of-put_antidual : goal.invariant_of-put_antidual
 invariant_of-put_antidual g c =
-    let a = c.args in
-    let s = a.left.shape in
-    let t = a.right.shape in
-    let x = a.left.numbers.now in
-    let y = a.right.numbers.now in
-    let d = meeting_shape s t x y (length a.out.now) (met s t x y (length a.out.now) a.left.small a.right.small a.left.counted a.right.counted c.requires.meeting) a.joined.now c.requires.in_order.2 _ _ _ _ _ _ (array_room _ c.requires.room.2) c.put_dual.ensures c.put_dual-2.ensures c.in_ok-p.p c.in_ok-p.ensures in
+    let at = goal.at.invariant_of-put_antidual g c in
+    let d = same at.In_ok-p (met at.Start) in
     let k = counted _ _ _ d c.requires.meeting.0 c.blades_or_none.ensures in
     record {
       small = small _ _ _ d c.requires.meeting.0 c.blades_or_none.ensures;
@@ -72,20 +68,17 @@ invariant_of-put_antidual g c =
 
 pub put_antidual-requires-clause-room : goal.put_antidual-requires-clause-room
 put_antidual-requires-clause-room g c =
-    let a = c.args in
-    let s = a.left.shape in
-    let t = a.right.shape in
-    let x = a.left.numbers.now in
-    let y = a.right.numbers.now in
-    let d = meeting_shape s t x y (length a.out.now) (met s t x y (length a.out.now) a.left.small a.right.small a.left.counted a.right.counted c.requires.meeting) a.joined.now c.requires.in_order.2 _ _ _ _ _ _ (array_room _ c.requires.room.2) c.put_dual.ensures c.put_dual-2.ensures c.in_ok-p.p c.in_ok-p.ensures in
+    let at = goal.at.put_antidual-requires-clause-room g c in
+    let d = same at.In_ok-p (met at.Start) in
     omega (arith, ap (λ (i : ℕ). 2 ^ i) d, c.requires.meeting.1)
 
 pub returns : goal.returns
 returns g c =
     let a = c.args in
+    let at = goal.at.returns g c in
     let s = a.left.shape in
     let t = a.right.shape in
     let x = a.left.numbers.now in
     let y = a.right.numbers.now in
-    let d = meeting_shape s t x y (length a.out.now) (met s t x y (length a.out.now) a.left.small a.right.small a.left.counted a.right.counted c.requires.meeting) a.joined.now c.requires.in_order.2 _ _ _ _ _ _ (array_room _ c.requires.room.2) c.put_dual.ensures c.put_dual-2.ensures c.in_ok-p.p c.in_ok-p.ensures in
-    gives_regressive s t x y (length a.out.now) (met s t x y (length a.out.now) a.left.small a.right.small a.left.counted a.right.counted c.requires.meeting) a.joined.now c.requires.in_order.2 _ _ _ _ _ _ (array_room _ c.requires.room.2) c.put_dual.ensures c.put_dual-2.ensures c.in_ok-p.p c.in_ok-p.ensures c.blades_or_none.result a.out.now _ (counted _ _ _ d c.requires.meeting.0 c.blades_or_none.ensures) c.put_antidual.ensures
+    let d = same at.In_ok-p (met at.Start) in
+    gives_regressive s t x y (length a.out.now) (met at.Start) a.joined.now c.requires.in_order.2 _ _ _ _ _ _ (array_room _ c.requires.room.2) c.put_dual.ensures c.put_dual-2.ensures c.in_ok-p.p c.in_ok-p.ensures c.blades_or_none.result a.out.now _ (counted _ _ _ d c.requires.meeting.0 c.blades_or_none.ensures) c.put_antidual.ensures

@@ -38,12 +38,12 @@ pub mul_by-requires : goal.mul_by-requires
 mul_by-requires c =
     let a = c.args in
     let v = c.requires.grown_value in
-    passed_grown a.grown a.shape a.given.now (flavored a.grown a.shape v.0) (larger a.grown a.shape v.0) c.requires.in_order
+    passed_grown a.grown a.base.shape a.given.now (flavored a.grown a.base.shape v.0) (larger a.grown a.base.shape v.0) c.requires.in_order
 
 pub returns : goal.returns
 returns c =
     let a = c.args in
     let v = c.requires.grown_value in
-    let x = c.requires.x_len in
-    replaced a.grown a.shape v.0 c.blades_or_none-n.result a.x.now a.next.now _ a.out.now _ c.mul_by.result
-    v.1 (none_counted c.blades_or_none-n.ensures v.1) x.0 x.1 x.2 c.mul_by.ensures c.copy_from_slice.ensures.after
+    let x = c.requires.room in
+    replaced a.grown a.base.shape v.0 c.blades_or_none-n.result a.base.numbers.now a.next.now _ a.out.now _ c.mul_by.result
+    v.1 (none_counted c.blades_or_none-n.ensures v.1) a.base.counted x.0 x.1 c.mul_by.ensures c.copy_from_slice.ensures.after

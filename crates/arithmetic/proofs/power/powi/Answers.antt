@@ -41,11 +41,14 @@ module _ (s : Shape) (y z : ℤ) (a out : List Float) (b : y ≡ z) where
     known : PowerAccepted s z a (length out) × ((is_negative z && was_planar (test_of s a)) ≡ false) × (size_of z ≡ 2 ^ 31 → ⊥)
     known = none_refused s z a (length out) (sym number ∙ d)
 
-    asked : SFits w32 z → (power_dims s (size_of y) ≤ 9) × (s.dims ≤ 9) × (size_of y < 2 ^ 31) × ((is_negative y && was_planar (test_of s a)) ≡ false)
-    asked f = rw b (known.0.result, known.0.small, size_small z f known.2, known.1)
+    asked : SFits w32 z → (power_dims s (size_of y) ≤ 9) × (size_of y < 2 ^ 31)
+    asked f = rw b (known.0.result, size_small z f known.2)
 
-    roomy : (length a ≡ 2 ^ s.dims) × (2 ^ power_dims s (size_of y) ≤ length out)
-    roomy = rw b (known.0.counted, known.0.roomy)
+    invertible : (is_negative y && was_planar (test_of s a)) ≡ false
+    invertible = rw b known.1
+
+    roomy : 2 ^ power_dims s (size_of y) ≤ length out
+    roomy = rw b known.0.roomy
 
     all_done : (after : List Float) (n : ℕ) (u : Shape) → after ≡ laid (power_of s y a) out → (s.dims ≤ 9 → n ≡ power_dims s (size_of y)) → u ≡ with_dims s n → Gives (power s z a (length out)) (Ok u) out after
     unfolding power
@@ -65,10 +68,21 @@ put_power-requires-clause-power_bound c =
     let a = c.args in
     asked a.shape _ a.exponent a.a.now a.out.now (to_z-of_z w32 a.exponent c.ranges.exponent) c.in_ok-power_refusal.ensures.0 c.ranges.exponent
 
-pub put_power-requires-clause-a_len : goal.put_power-requires-clause-a_len
-put_power-requires-clause-a_len c =
+pub put_power-requires-clause-invertible : goal.put_power-requires-clause-invertible
+put_power-requires-clause-invertible c =
+    let a = c.args in
+    invertible a.shape _ a.exponent a.a.now a.out.now (to_z-of_z w32 a.exponent c.ranges.exponent) c.in_ok-power_refusal.ensures.0
+
+pub put_power-requires-clause-room : goal.put_power-requires-clause-room
+put_power-requires-clause-room c =
     let a = c.args in
     roomy a.shape _ a.exponent a.a.now a.out.now (to_z-of_z w32 a.exponent c.ranges.exponent) c.in_ok-power_refusal.ensures.0
+
+pub invariant_of-put_power : goal.invariant_of-put_power
+invariant_of-put_power c =
+    let a = c.args in
+    let k = known a.shape _ a.exponent a.a.now a.out.now (to_z-of_z w32 a.exponent c.ranges.exponent) c.in_ok-power_refusal.ensures.0 in
+    record { small = k.0.small; counted = k.0.counted }
 
 pub returns : goal.returns
 returns c =

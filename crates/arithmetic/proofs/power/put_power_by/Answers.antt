@@ -28,23 +28,22 @@ module _ (s : Shape) (z : ℤ) (a out after : List Float) (n : ℕ) (e : n ≡ s
 size : (c : After-unsigned_abs-n) → c.unsigned_abs-n.result ≡ size_of c.args.power
 size c = size_read c.args.power c.ranges.power _ c.unsigned_abs-n.ensures.value
 
-pub raise_inverse-requires-else-a-le64-clause-a_len : goal.raise_inverse-requires-else-a-le64-clause-a_len
-raise_inverse-requires-else-a-le64-clause-a_len c =
-    let p = c.requires in
-    let fits : 2 ^ power_dims c.args.shape c.unsigned_abs-n.result ≤ length c.args.out.now = rw (size (goal.at.raise_inverse-requires-else-a-le64-clause-a_len c).After-unsigned_abs-n) p.a_len.1 in
-    (p.a_len.0, omega (arith, p.a_len.0, blades_le _ p.power_bound.1), fits, omega arith)
+pub raise_inverse-requires-else-value-le64-clause-room : goal.raise_inverse-requires-else-value-le64-clause-room
+raise_inverse-requires-else-value-le64-clause-room c =
+    let fits : 2 ^ power_dims c.args.value.shape c.unsigned_abs-n.result ≤ length c.args.out.now = rw (size (goal.at.raise_inverse-requires-else-value-le64-clause-room c).After-unsigned_abs-n) c.requires.room in
+    (omega (arith, c.args.value.counted, blades_le _ c.args.value.small), fits, omega arith)
 
 pub returns-then-power-ge0 : goal.returns-then-power-ge0
 returns-then-power-ge0 c =
     let a = c.args in
-    raised_up a.shape a.power a.a.now a.out.now _ _ (size (goal.at.returns-then-power-ge0 c).After-unsigned_abs-n) (from_zero a.power c.ranges.power true c.if-power-ge0.true) c.raise.ensures
+    raised_up a.value.shape a.power a.value.numbers.now a.out.now _ _ (size (goal.at.returns-then-power-ge0 c).After-unsigned_abs-n) (from_zero a.power c.ranges.power true c.if-power-ge0.true) c.raise.ensures
 
-pub returns-then-a-le64 : goal.returns-then-a-le64
-returns-then-a-le64 c =
+pub returns-then-value-le64 : goal.returns-then-value-le64
+returns-then-value-le64 c =
     let a = c.args in
-    raised_down a.shape a.power a.a.now a.out.now _ _ (size (goal.at.returns-then-a-le64 c).After-unsigned_abs-n) (from_zero a.power c.ranges.power false c.if-power-ge0.false) c.raise_inverse.ensures
+    raised_down a.value.shape a.power a.value.numbers.now a.out.now _ _ (size (goal.at.returns-then-value-le64 c).After-unsigned_abs-n) (from_zero a.power c.ranges.power false c.if-power-ge0.false) c.raise_inverse.ensures
 
-pub returns-else-a-le64 : goal.returns-else-a-le64
-returns-else-a-le64 c =
+pub returns-else-value-le64 : goal.returns-else-value-le64
+returns-else-value-le64 c =
     let a = c.args in
-    raised_down a.shape a.power a.a.now a.out.now _ _ (size (goal.at.returns-else-a-le64 c).After-unsigned_abs-n) (from_zero a.power c.ranges.power false c.if-power-ge0.false) c.raise_inverse-else-a-le64.ensures
+    raised_down a.value.shape a.power a.value.numbers.now a.out.now _ _ (size (goal.at.returns-else-value-le64 c).After-unsigned_abs-n) (from_zero a.power c.ranges.power false c.if-power-ge0.false) c.raise_inverse-else-value-le64.ensures

@@ -46,27 +46,27 @@ laid_as out e h = rw e h
 pub returns-then-power-eq1 : goal.returns-then-power-eq1
 returns-then-power-eq1 c =
     let a = c.args in
-    laid_as a.out.now (raised_one a.shape a.power a.x.now c.if-power-eq1.true) (ap (λ (xs : List Float). xs ++ drop (length a.x.now) a.out.now) c.copy_from_slice.ensures.after)
+    laid_as a.out.now (raised_one a.value.shape a.power a.value.numbers.now c.if-power-eq1.true) (ap (λ (xs : List Float). xs ++ drop (length a.value.numbers.now) a.out.now) c.copy_from_slice.ensures.after)
 
 pub put_square-requires-clause-room : goal.put_square-requires-clause-room
-put_square-requires-clause-room c = room (dims_two c.args.shape c.args.power c.args.x.now c.if-power-eq1.false c.if-power-eq2.true) c.requires.x_len.1
+put_square-requires-clause-room c = room (dims_two c.args.value.shape c.args.power c.args.value.numbers.now c.if-power-eq1.false c.if-power-eq2.true) c.requires.room
 
 pub returns-then-power-eq2 : goal.returns-then-power-eq2
 returns-then-power-eq2 c =
     let a = c.args in
-    laid_as a.out.now (raised_two a.shape a.power a.x.now c.if-power-eq1.false c.if-power-eq2.true) c.put_square.ensures
+    laid_as a.out.now (raised_two a.value.shape a.power a.value.numbers.now c.if-power-eq1.false c.if-power-eq2.true) c.put_square.ensures
 
 pub raise_by_digits-requires-clause-flavor_bound : goal.raise_by_digits-requires-clause-flavor_bound
 raise_by_digits-requires-clause-flavor_bound c =
-    let d = dims_other c.args.shape c.args.power c.args.x.now c.if-power-eq1.false c.if-power-eq2.false in
-    (omega (arith, d, c.requires.power_bound.0), c.requires.power_bound.2)
+    let d = dims_other c.args.value.shape c.args.power c.args.value.numbers.now c.if-power-eq1.false c.if-power-eq2.false in
+    (omega (arith, d, c.requires.power_bound.0), c.requires.power_bound.1)
 
-pub raise_by_digits-requires-clause-x_len : goal.raise_by_digits-requires-clause-x_len
-raise_by_digits-requires-clause-x_len c =
-    let d = dims_other c.args.shape c.args.power c.args.x.now c.if-power-eq1.false c.if-power-eq2.false in
-    (c.requires.x_len.0, room d c.requires.x_len.1)
+pub raise_by_digits-requires-clause-room : goal.raise_by_digits-requires-clause-room
+raise_by_digits-requires-clause-room c =
+    let d = dims_other c.args.value.shape c.args.power c.args.value.numbers.now c.if-power-eq1.false c.if-power-eq2.false in
+    room d c.requires.room
 
 pub returns : goal.returns
 returns c =
     let a = c.args in
-    laid_as a.out.now (raised_other a.shape a.power a.x.now c.if-power-eq1.false c.if-power-eq2.false) c.raise_by_digits.ensures
+    laid_as a.out.now (raised_other a.value.shape a.power a.value.numbers.now c.if-power-eq1.false c.if-power-eq2.false) c.raise_by_digits.ensures

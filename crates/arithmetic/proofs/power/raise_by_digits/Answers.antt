@@ -14,11 +14,11 @@ twice d a h l = let m : 2 ^ (d + a) ≤ 2 ^ suc d = pow_mono (omega arith) in om
 pub raise_wide-requires-clause-flavor_bound : goal.raise_wide-requires-clause-flavor_bound
 raise_wide-requires-clause-flavor_bound c =
     let p = c.requires in
-    let f = c.args.shape.flavor in
-    (p.flavor_bound.0, p.flavor_bound.1, omega (arith, twice c.args.shape.dims (added_dims f) (added_le f) (omega (arith, c.if-x-le32.true, p.x_len.0))))
+    let f = c.args.value.shape.flavor in
+    (p.flavor_bound.0, p.flavor_bound.1, omega (arith, twice c.args.value.shape.dims (added_dims f) (added_le f) (omega (arith, c.if-value-le32.true, c.args.value.counted))))
 
-pub raise_wide-requires-else-x-le32-clause-flavor_bound : goal.raise_wide-requires-else-x-le32-clause-flavor_bound
-raise_wide-requires-else-x-le32-clause-flavor_bound c = let f = c.requires.flavor_bound in (f.0, f.1, omega (arith, blades_le _ f.0))
+pub raise_wide-requires-else-value-le32-clause-flavor_bound : goal.raise_wide-requires-else-value-le32-clause-flavor_bound
+raise_wide-requires-else-value-le32-clause-flavor_bound c = let f = c.requires.flavor_bound in (f.0, f.1, omega (arith, blades_le _ f.0))
 
-pub raise_wide-requires-else-x-le32-clause-x_in_bounds : goal.raise_wide-requires-else-x-le32-clause-x_in_bounds
-raise_wide-requires-else-x-le32-clause-x_in_bounds c = (omega (arith, c.requires.x_len.0, blades_le c.args.shape.dims (omega (arith, c.requires.flavor_bound.0))), omega arith, omega arith)
+pub raise_wide-requires-else-value-le32-clause-in_bounds : goal.raise_wide-requires-else-value-le32-clause-in_bounds
+raise_wide-requires-else-value-le32-clause-in_bounds c = (omega (arith, c.args.value.counted, blades_le _ c.args.value.small), omega arith, omega arith)

@@ -182,9 +182,9 @@ module _ (s : Shape) (h : (grown s).dims ≤ 9) where
         ∙ ap (λ (ys : List Float). laid ys out) (sym (ap (λ (q : ℕ). raised s t.k q t.r t.b) z ∙ raised_none s t.k t.r t.b) ∙ t.same)
 
 -- The shape that the call before the loop gives.
-shape_is : (c : At-loop-p) → c.unwrap-grown.result ≡ grown c.args.shape
+shape_is : (c : At-loop-p) → c.unwrap-grown.result ≡ grown c.args.value.shape
 unfolding of_bits of_fields
-shape_is c = begun_shape c.args.shape c.requires.flavor_bound.0 c.requires.x_len.1 c.scalar.ensures c.unwrap-grown.result c.unwrap-grown.ensures
+shape_is c = begun_shape c.args.value.shape c.requires.flavor_bound.0 c.requires.room c.scalar.ensures c.unwrap-grown.result c.unwrap-grown.ensures
 
 -- The copy is at the front of the base's array, which stays as long.
 base_long : (x base copy : List Float) → copy ≡ x → length x ≤ length base → length (copy ++ drop (length x) base) ≡ length base
@@ -199,29 +199,29 @@ room : {m n j k : ℕ} → m ≡ n → 2 ^ n ≤ j → k ≡ j → 2 ^ m ≤ k
 room e h q = rw (e, q) h
 
 -- After the test of a digit.
-digit : (c : Joined-p-eq1) → c.unwrap-grown.result ≡ grown c.args.shape
-    → Left c.args.shape c.args.power c.args.x.now c.scalar.new.out (c.copy_from_slice.new.self ++ drop (length c.args.x.now) c.args.base.now) (square_of c.args.shape) c.if-p-eq1.out c.loop-p.base (c.loop-p.p / 2)
+digit : (c : Joined-p-eq1) → c.unwrap-grown.result ≡ grown c.args.value.shape
+    → Left c.args.value.shape c.args.power c.args.value.numbers.now c.scalar.new.out (c.copy_from_slice.new.self ++ drop (length c.args.value.numbers.now) c.args.base.now) (square_of c.args.value.shape) c.if-p-eq1.out c.loop-p.base (c.loop-p.p / 2)
 digit c g =
     let t = c.loop-p.invariant in
     elim c.if-p-eq1.branch [
       | then-p-eq1 w ↦
-          odd t c.loop-p-test.true c.if-p-eq1.out c.unwrap-grown.result (length c.args.x.now) c.requires.flavor_bound.0 g
-          c.requires.x_len.0 w.if-p-eq1.true (w.out-is ∙ w.mul_front.ensures)
+          odd t c.loop-p-test.true c.if-p-eq1.out c.unwrap-grown.result (length c.args.value.numbers.now) c.requires.flavor_bound.0 g
+          c.args.value.counted w.if-p-eq1.true (w.out-is ∙ w.mul_front.ensures)
       | else-p-eq1 w ↦ even t c.loop-p-test.true c.if-p-eq1.out w.if-p-eq1.false w.out-is
     ]
 
 pub unwrap-grown-requires : goal.unwrap-grown-requires
 unfolding of_bits of_fields
-unwrap-grown-requires c = begun_done c.args.shape c.requires.flavor_bound.0 c.requires.x_len.1 c.scalar.ensures
+unwrap-grown-requires c = begun_done c.args.value.shape c.requires.flavor_bound.0 c.requires.room c.scalar.ensures
 
 pub loop-p-init : goal.loop-p-init
 unfolding of_bits of_fields
 loop-p-init c =
-    let s = c.args.shape in
+    let s = c.args.value.shape in
     let p = c.requires in
-    let x = c.args.x.now in
+    let x = c.args.value.numbers.now in
     let base_is = ap (λ (xs : List Float). xs ++ drop (length x) c.args.base.now) c.copy_from_slice.ensures.after in
-    begins s p.flavor_bound.0 c.args.power x c.args.out.now c.scalar.new.out (begun s p.flavor_bound.0 p.x_len.1 c.scalar.ensures) c.args.base.now _ p.flavor_bound.1 p.x_len.0 base_is
+    begins s p.flavor_bound.0 c.args.power x c.args.out.now c.scalar.new.out (begun s p.flavor_bound.0 p.room c.scalar.ensures) c.args.base.now _ p.flavor_bound.1 c.args.value.counted base_is
 
 pub mul_front-requires-clause-in_order : goal.mul_front-requires-clause-in_order
 mul_front-requires-clause-in_order c =
@@ -232,26 +232,31 @@ mul_front-requires-clause-grown_value c =
     let g = shape_is (goal.at.mul_front-requires-clause-grown_value c).At-loop-p in
     (g, omega (arith, ap (λ (u : Shape). u.dims) g, c.requires.flavor_bound.0))
 
-pub mul_front-requires-clause-x_len : goal.mul_front-requires-clause-x_len
-mul_front-requires-clause-x_len c =
+pub mul_front-requires-clause-room : goal.mul_front-requires-clause-room
+mul_front-requires-clause-room c =
     let p = c.requires in
-    let d = ap (λ (u : Shape). u.dims) (shape_is (goal.at.mul_front-requires-clause-x_len c).At-loop-p) in
-    let l = base_long c.args.x.now c.args.base.now c.copy_from_slice.new.self c.copy_from_slice.ensures.after p.flavor_bound.2 in
-    let e : length c.args.x.now ≤ length c.loop-p.base = omega (arith, p.flavor_bound.2, c.loop-p.auto.base, l) in
-    (length-take-le _ c.loop-p.base e ∙ p.x_len.0, room d p.x_len.1 (c.loop-p.auto.out ∙ c.scalar.auto.out), room d p.flavor_bound.3 c.loop-p.auto.next)
+    let d = ap (λ (u : Shape). u.dims) (shape_is (goal.at.mul_front-requires-clause-room c).At-loop-p) in
+    (room d p.room (c.loop-p.auto.out ∙ c.scalar.auto.out), room d p.in_bounds.1 c.loop-p.auto.next)
+
+pub invariant_of-mul_front : goal.invariant_of-mul_front
+invariant_of-mul_front c =
+    let v = c.args.value in
+    let l = base_long v.numbers.now c.args.base.now c.copy_from_slice.new.self c.copy_from_slice.ensures.after c.requires.in_bounds.0 in
+    let e : length v.numbers.now ≤ length c.loop-p.base = omega (arith, c.requires.in_bounds.0, c.loop-p.auto.base, l) in
+    record { small = v.small; counted = length-take-le _ c.loop-p.base e ∙ v.counted }
 
 pub square_front-requires-clause-dims_bound : goal.square_front-requires-clause-dims_bound
 square_front-requires-clause-dims_bound c =
     let p = c.requires in
-    let m = base_room c.args.shape.dims (grown c.args.shape).dims (omega arith) in
-    let l = base_long c.args.x.now c.args.base.now c.copy_from_slice.new.self c.copy_from_slice.ensures.after p.flavor_bound.2 in
-    (omega (arith, p.flavor_bound.0), p.x_len.0, omega (arith, p.flavor_bound.2, c.loop-p.auto.base, l), omega (arith, m, p.x_len.0, p.flavor_bound.3, c.if-p-eq1.auto.next, c.loop-p.auto.next))
+    let m = base_room c.args.value.shape.dims (grown c.args.value.shape).dims (omega arith) in
+    let l = base_long c.args.value.numbers.now c.args.base.now c.copy_from_slice.new.self c.copy_from_slice.ensures.after p.in_bounds.0 in
+    (c.args.value.small, c.args.value.counted, omega (arith, p.in_bounds.0, c.loop-p.auto.base, l), omega (arith, m, c.args.value.counted, p.in_bounds.1, c.if-p-eq1.auto.next, c.loop-p.auto.next))
 
 pub loop-p-preserved-then-p-gt0 : goal.loop-p-preserved-then-p-gt0
 loop-p-preserved-then-p-gt0 c =
     let a = goal.at.loop-p-preserved-then-p-gt0 c in
     let q = c.square_front in
-    goes_on (digit a.Joined-p-eq1 (shape_is a.At-loop-p)) (length c.args.x.now) c.requires.x_len.0 q.ensures
+    goes_on (digit a.Joined-p-eq1 (shape_is a.At-loop-p)) (length c.args.value.numbers.now) c.args.value.counted q.ensures
 
 pub loop-p-preserved : goal.loop-p-preserved
 loop-p-preserved c =
@@ -261,6 +266,6 @@ loop-p-preserved c =
 pub returns : goal.returns
 unfolding of_bits of_fields
 returns c =
-    let s = c.args.shape in
+    let s = c.args.value.shape in
     let p = c.requires in
-    ends s p.flavor_bound.0 c.args.power c.args.x.now c.args.out.now c.scalar.new.out (begun s p.flavor_bound.0 p.x_len.1 c.scalar.ensures) _ _ _ _ c.loop-p-test.false c.loop-p.invariant
+    ends s p.flavor_bound.0 c.args.power c.args.value.numbers.now c.args.out.now c.scalar.new.out (begun s p.flavor_bound.0 p.room c.scalar.ensures) _ _ _ _ c.loop-p-test.false c.loop-p.invariant

@@ -20,5 +20,5 @@ raised_of s n a array held out after c l e q =
 pub returns : goal.returns
 returns g c =
     let a = c.args in
-    let l = c.requires.a_len.0 in
-    raised_of a.shape a.power a.a.now _ _ a.out.now _ l (inverse_length a.shape a.a.now l c.requires.power_bound.3) c.put_inverse.ensures c.raise.ensures
+    let l = a.value.counted in
+    raised_of a.value.shape a.power a.value.numbers.now _ _ a.out.now _ l (inverse_length a.value.shape a.value.numbers.now l c.requires.invertible) c.put_inverse.ensures c.raise.ensures

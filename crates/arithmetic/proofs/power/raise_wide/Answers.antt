@@ -16,9 +16,9 @@ module _ (d m n : ℕ) (before after : List ℕ) (r : Result (Unit {0}) Refusal)
 pub unwrap-requires : goal.unwrap-requires
 unwrap-requires g c =
     let f = c.requires.flavor_bound in
-    order_put (built c.args.shape.dims _ (added_dims c.args.shape.flavor) _ _ _ c.added_dims-added.ensures c.put_order.ensures) f.0 (array_room _ f.2)
+    order_put (built c.args.value.shape.dims _ (added_dims c.args.value.shape.flavor) _ _ _ c.added_dims-added.ensures c.put_order.ensures) f.0 (array_room _ f.2)
 
 pub raise_in-requires-2-clause-in_order : goal.raise_in-requires-2-clause-in_order
 raise_in-requires-2-clause-in_order g c =
     let f = c.requires.flavor_bound in
-    (c.requires.in_order, passed_put (built c.args.shape.dims _ (added_dims c.args.shape.flavor) _ _ _ c.added_dims-added.ensures c.put_order.ensures) f.0 (array_room _ f.2))
+    (c.requires.in_order, passed_put (built c.args.value.shape.dims _ (added_dims c.args.value.shape.flavor) _ _ _ c.added_dims-added.ensures c.put_order.ensures) f.0 (array_room _ f.2))
