@@ -59,7 +59,7 @@ fn weight_of(s: Squares, mask: u16) -> f64
     }
 }
 
-// The sum from place 0 up: (w x c) x c, zeros multiplied too.
+// The sum from place 0 up: (w x c) x c, zeros multiplied too. The flavor and the dimensions go apart, as `weighed_sum` has them.
 fn sum_squares(flavor: Flavor, dims: u8, masks: &[u16], a: &[f64]) -> f64
     requires { (dims ≤ 9) × (length a.now ≡ 2 ^ dims) × (2 ^ dims ≤ length masks.now) × ((i : ℕ) → i < 2 ^ dims → get_or masks.now i 0 ≡ mask_at dims i) }
     ensures { result ≡ weighed_sum flavor dims a.now (2 ^ dims) }

@@ -95,6 +95,7 @@ fn raise_in(
     let grown = scalar(shape.dims, 1.0, shape.flavor, out).unwrap();
     base[..x.len()].copy_from_slice(x);
     let mut p = power;
+    // It goes from digit to digit, and counts no index.
     while 0 < p {
         if p % 2 == 1 {
             let numbers = &base[..x.len()];

@@ -16,14 +16,11 @@ pub(crate) fn flavor_in(bytes: &[u8; 6]) -> Flavor
     shape.flavor
 }
 
+#[tactic(auto, unfolding(masks::specs::Flavor::metric_value))]
 pub(crate) fn metric_number(metric: Metric) -> i8
     ensures { result ≡ metric_value metric }
 {
-    match metric {
-        Metric::Minus => -1,
-        Metric::Zero => 0,
-        Metric::Plus => 1,
-    }
+    metric as i8
 }
 
 pub(crate) fn order_number(order: Ordering) -> i8

@@ -18,7 +18,7 @@ use sheets::values::value_at;
 use sheets::write::write;
 use std::convert::identity;
 
-// Whether one of the shapes that bytes say has more than nine dimensions.
+// Whether one of the shapes that bytes say has more than nine dimensions: every sixth byte, and none of a shape that is cut off.
 fn any_above_nine(bytes: &[u8]) -> bool
     ensures { result ≡ any_above_nine (said_shapes 6 bytes.now) }
 {

@@ -1,4 +1,5 @@
-// A shape as six bytes: dims, kind, p, n, z, mark. The mark is written 0, and not looked at.
+// A shape as six bytes: dims, kind, p, n, z, mark. The mark is written 0, and not looked at. Functions and no `From`: its promise would stand in a ghost
+// member, and what the clauses of every export name is the definition `shape_from` all the same. The kinds are numbers as C has them.
 ghost use Rattle.std.specs.Prelude.{◌≡◌};
 ghost use Rattle.masks.specs.ShapeBytes.{flavor_from, shape_from, shape_bytes};
 

@@ -29,7 +29,8 @@ fn fill_ordered<const N: usize>(mode: Mode, shape: Shape, a: &[f64], b: &[f64], 
     fill_given(Plan { shape, mode, given }, a, b, out);
 }
 
-// The coefficients of the product of two values of one shape, whose places have the given masks, or where these are too few those of the order.
+// The coefficients of the product of two values of one shape, whose places have the given masks, or where these are too few those of the order. One
+// clause says of both values that they have the shape's numbers: a type for each would hold the shape twice, and a clause that both are the same.
 fn fill(given: &[u16], mode: Mode, shape: Shape, a: &[f64], b: &[f64], out: &mut [f64])
     requires { (shape.dims ≤ 9) × (length a.now ≡ 2 ^ shape.dims) × (length b.now ≡ 2 ^ shape.dims) × (2 ^ shape.dims ≤ length out.old) }
     ensures { out.new ≡ laid (product_by (given_mask given.now shape.dims) shape.dims mode shape.flavor binary64 a.now b.now) out.old }

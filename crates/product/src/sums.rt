@@ -59,6 +59,7 @@ fn add_subsets(sums: &mut Sums, base: u32, free: u32, from: u32, blade: Blade, y
     let ys = [y, -y];
     let step = sums.acc.len() as u32 - free;
     let mut s = from;
+    // It goes from subset to subset, and counts no index.
     loop {
         add_pair(sums, base + s, blade, &ys);
         s = (s + step) & free;

@@ -56,6 +56,7 @@ fn run(sheet: &[u8], shapes: &Shapes, log: &[u8], out: &mut [f64]) -> Replay
     let mut x = [0.0; 512];
     let mut y = [0.0; 512];
     let mut held = [0.0; 512];
+    // Beside the shapes, so that no step adds up those before its value; there is no heap.
     let mut starts = [0; 64];
     let listed = shapes.listed();
     let count = listed.len();

@@ -18,7 +18,7 @@ pub const MAX_SHAPES: usize = 64;
 
 pub const MAX_COEFFICIENTS: usize = 4096;
 
-// The first `count` of those that are held are listed.
+// The first `count` of those that are held are listed. No list of its own length: a record may count more than 64, and `value_at` answers it.
 #[derive(Clone, Copy)]
 pub struct Shapes {
     pub count: usize,
