@@ -101,6 +101,7 @@ fn compare_from(a: &[f64], b: &[f64], first: usize) -> Ordering
 }
 
 // Whether the first four numbers are equal, with no branch between them.
+#[inline]
 pub(crate) fn four_equal(a: &[f64], b: &[f64]) -> bool
     requires { (4 ≤ length a.now) × (4 ≤ length b.now) }
     ensures { result ≡ (((eq (get_or a.now 0 nan) (get_or b.now 0 nan) && eq (get_or a.now 1 nan) (get_or b.now 1 nan)) && eq (get_or a.now 2 nan) (get_or b.now 2 nan)) && eq (get_or a.now 3 nan) (get_or b.now 3 nan)) }

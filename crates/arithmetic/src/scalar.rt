@@ -33,6 +33,7 @@ fn zero_from(a: &[f64], first: usize) -> bool
 }
 
 // Whether the four numbers from place i on equal zero.
+#[inline]
 fn four_zero(a: &[f64], i: usize) -> bool
     requires { i + 4 ≤ length a.now }
     ensures { all_zero (drop i a.now) ≡ (result && all_zero (drop (i + 4) a.now)) }

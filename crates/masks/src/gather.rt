@@ -22,6 +22,7 @@ pub(crate) fn coefficient(value: Coefs, mask: usize) -> f64
     }
 }
 
+#[inline]
 pub(crate) fn copy_all(a: &[f64], out: &mut [f64])
     requires { length a.now ≤ length out.old }
     ensures { out.new ≡ laid a.now out.old }
@@ -30,6 +31,7 @@ pub(crate) fn copy_all(a: &[f64], out: &mut [f64])
 }
 
 // `count` numbers from the place `first` on, written from the place `at` on.
+#[inline]
 pub(crate) fn copy_part(a: &[f64], first: usize, count: usize, out: &mut [f64], at: usize)
     requires { (first + count ≤ length a.now) × (at + count ≤ length out.old) }
     ensures { out.new ≡ sets out.old at (take count (drop first a.now)) }
@@ -38,6 +40,7 @@ pub(crate) fn copy_part(a: &[f64], first: usize, count: usize, out: &mut [f64], 
 }
 
 // +0 at `count` places from `at` on.
+#[inline]
 pub(crate) fn clear_part(count: usize, out: &mut [f64], at: usize)
     requires { at + count ≤ length out.old }
     ensures { out.new ≡ sets out.old at (replicate count nought) }
@@ -46,6 +49,7 @@ pub(crate) fn clear_part(count: usize, out: &mut [f64], at: usize)
 }
 
 // All coefficients at d dimensions.
+#[inline]
 pub(crate) fn read_all(value: Coefs, d: u8, out: &mut [f64])
     requires { (d ≤ 9) × (2 ^ d ≤ length out.old) }
     ensures { out.new ≡ laid (map (coef value.entry.dims value.entry.numbers.now) (order d)) out.old }
@@ -71,6 +75,7 @@ fn turns(dims: u8, new_dims: u8) -> bool
 }
 
 // A value at other dimensions: its coefficients there, that of mask 101 negated where the change does.
+#[inline]
 pub(crate) fn resize(value: Coefs, new_dims: u8, out: &mut [f64])
     requires { (new_dims ≤ 9) × (2 ^ new_dims ≤ length out.old) }
     ensures { out.new ≡ laid (resized value.entry.dims new_dims value.entry.numbers.now) out.old }
