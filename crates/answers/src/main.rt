@@ -62,8 +62,8 @@ fn agrees(text: &[u8], space: &mut Space) -> bool {
     }
 }
 
-// Reads until the buffer is full or the input ends, and says how many bytes were read. `read` says how far each step goes, and std's way to
-// read to the end needs a heap.
+// Reads until the buffer is full or the input ends, and says how many bytes were read. By hand: a short
+// line at the end must be told from a full one, and `read_exact` does not say how far it came.
 fn read_full<R: Read>(input: &mut R, buf: &mut [u8]) -> io::Result<usize>
     ensures { IfOk result (λ n. n ≤ length buf.old) }
 {

@@ -16,7 +16,7 @@ use Rattle.masks.specs.Shape.{conformed_shape, meeting_dims}
 use Rattle.masks.specs.Build.{pseudoscalar}
 use Rattle.masks.proofs.ListLaws.{take_laid}
 use Rattle.masks.proofs.OrderLaws.{blades_le}
-use Rattle.masks.proofs.OutcomeLaws.{refuses, gives_refused, gives_done, Passed}
+use Rattle.masks.proofs.OutcomeLaws.{refuses, gives_refused, gives_ok, Passed}
 use Rattle.masks.proofs.BuildLaws.{size_last, grade_fits, length_grade_set, one_built}
 use Rattle.product.specs.declared.mode.Mode.TheVariants.{All, Outer}
 use Rattle.product.specs.declared.outcome.Product.{Product}
@@ -161,6 +161,6 @@ module _ (s t : Shape) (a b : List Float) (room : ℕ) (m : Meets s t a b room) 
           → Gives (regressive_product s t a b room) (Ok p.shape) before after
       unfolding regressive_product
       gives_regressive n before after e l =
-          gives_done (refusal (product_tests s t a b room)) (with_coefs (antidual_of outer.shape.dims) outer) p.shape before after (meeting_done s t a b room m)
+          gives_ok (refusal (product_tests s t a b room)) (with_coefs (antidual_of outer.shape.dims) outer) p.shape before after (meeting_done s t a b room m)
           (ap (λ (o : Outcome). o.number) outer_is) shape_is
           (l ∙ ap₂ (λ (u : Shape) (c : List Float). laid (antidual_of u.dims c) before) shape_is (outer_part n e))

@@ -14,7 +14,7 @@ use Rattle.masks.specs.declared.outcome.Refusal.{Refusal}
 use Rattle.masks.specs.declared.outcome.Refusal.TheVariants as Refusals
 use Rattle.masks.specs.Outcome.{Test, Outcome, Gives, refusal, number_of, unless, value, refused_value, laid, nought}
 use Rattle.masks.proofs.ListLaws.{both}
-use Rattle.masks.proofs.OutcomeLaws.{past, refused_already, refused_later, refuses, unless_refused, gives_refused, gives_done}
+use Rattle.masks.proofs.OutcomeLaws.{past, refused_already, refused_later, refuses, unless_refused, gives_refused, gives_ok}
 use Rattle.arithmetic.specs.declared.scalar.ScalarTest.{ScalarTest}
 use Rattle.arithmetic.specs.declared.scalar.ScalarTest.TheVariants.{Scalar, Planar, Neither}
 use Rattle.arithmetic.specs.Scalar.{test_of, if_scalar, was_planar}
@@ -160,4 +160,4 @@ module _ (s : Shape) (a before : List Float) where
       → Gives (inverse s a (length before)) (Ok s) before after
   unfolding inverse
   gives_inverse after z p l =
-      gives_done _ (value s (inverse_of s a)) s before after (all_passed (kept_tests s a (length before)) _ tt z ∙ none (was_planar (test_of s a)) p) refl refl l
+      gives_ok _ (value s (inverse_of s a)) s before after (all_passed (kept_tests s a (length before)) _ tt z ∙ none (was_planar (test_of s a)) p) refl refl l

@@ -16,7 +16,7 @@ use Rattle.masks.specs.declared.outcome.Refusal.{Refusal}
 use Rattle.masks.specs.Outcome.{Outcome, Gives, laid, refusal, too_many, number_of, unless, value, refused_value, nought, result_tests}
 use Rattle.masks.specs.Shape.{set_dims}
 use Rattle.masks.proofs.ListLaws.{take_laid}
-use Rattle.masks.proofs.OutcomeLaws.{taken, later_same, refused_later, refuses, answer_one, unless_done, unless_err, unless_ok, unless_number, gives_refused, gives_done, not_refused}
+use Rattle.masks.proofs.OutcomeLaws.{taken, later_same, refused_later, refuses, answer_one, unless_done, unless_err, unless_ok, unless_number, gives_refused, gives_ok, not_refused}
 use Rattle.masks.proofs.ShapeLaws.{resized_same}
 use Rattle.product.proofs.ListLaws.{laid_over}
 use Rattle.arithmetic.specs.declared.outcome.Taken.{Taken}
@@ -115,7 +115,7 @@ module _ (s : Shape) (a : List Float) (t : Shape) (before mid : List Float) (g :
   copy_changed f after l e =
       let whole : take (length a) mid ≡ a = rw copy_laid (take_laid (length a) a before refl) in
       let over : laid (f a) mid ≡ laid (f a) before = rw copy_laid (laid_over (f a) a before l) in
-      gives_done _ (value s (f a)) t before after unrefused refl copy_shape
+      gives_ok _ (value s (f a)) t before after unrefused refl copy_shape
       (e ∙ ap (λ (xs : List Float). laid (f xs) mid) whole ∙ over)
 
 -- ---- a call that keeps the shape, by the number that its tests give
@@ -127,7 +127,7 @@ module _ (g : List Float → List Float) (s : Shape) (a out : List Float) where
 
   pub kept_done : (after : List Float) → refusal (kept_tests s a (length out)) ≡ 0 → after ≡ laid (g a) out → Gives (kept g s a (length out)) (Ok s) out after
   unfolding kept
-  kept_done after z l = gives_done (refusal (kept_tests s a (length out))) (value s (g a)) s out after z refl refl l
+  kept_done after z l = gives_ok (refusal (kept_tests s a (length out))) (value s (g a)) s out after z refl refl l
 
 -- ---- copies
 

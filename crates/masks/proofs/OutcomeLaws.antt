@@ -205,8 +205,12 @@ module _ {O A : Type 0} (n : O → ℕ) (v : O → A) (f : ℕ → O) (k : ℕ) 
 pub gives_refused : (k : ℕ) (e : Refusal) (o : Outcome) (out : List Float) → k ≡ number_of e → Gives (unless refused_value k o) (Err e) out out
 gives_refused k e o out h = rw (unless_err refused_value k e o h) (record { answered = refl; left = refl })
 
-pub gives_done : (k : ℕ) (o : Outcome) (s : Shape) (before after : List Float) → k ≡ 0 → o.number ≡ 0 → s ≡ o.shape → after ≡ laid o.coefs before → Gives (unless refused_value k o) (Ok s) before after
-gives_done k o s before after h z a l = rw (unless_ok refused_value k o h) (record { answered = (z, a); left = l })
+pub gives_ok : (k : ℕ) (o : Outcome) (s : Shape) (before after : List Float) → k ≡ 0 → o.number ≡ 0 → s ≡ o.shape → after ≡ laid o.coefs before → Gives (unless refused_value k o) (Ok s) before after
+gives_ok k o s before after h z a l = rw (unless_ok refused_value k o h) (record { answered = (z, a); left = l })
+
+-- where no refusal was worked out, the outcome's answer is given, whatever it is
+pub gives_done : (k : ℕ) (o : Outcome) (r : Result Shape Refusal) (before after : List Float) → k ≡ 0 → IsAnswer o.number o.shape r → after ≡ laid o.coefs before → Gives (unless refused_value k o) r before after
+gives_done k o r before after h a l = rw (unless_ok refused_value k o h) (record { answered = a; left = l })
 
 pub gives_both_refused : (k : ℕ) (e : Refusal) (o : Pair) (out outRight : List Float) → k ≡ number_of e → GivesBoth (unless refused_pair k o) (Err e) out out outRight outRight
 gives_both_refused k e o out outRight h = rw (unless_err refused_pair k e o h) (record { answered = refl; left = refl; right = refl })

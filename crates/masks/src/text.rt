@@ -153,8 +153,8 @@ fn decimal_length(n: u8) -> usize
     }
 }
 
-// A number in decimal, written from the place `at` on; the place after it. By hand: `write!` makes text in memory of its own, and the output is the
-// caller's bytes.
+// A number in decimal, written from the place `at` on; the place after it. By hand: the room is tested before a byte is
+// written, so `write!` would need a writer over the slice beside it.
 fn put_decimal(n: u8, out: &mut [u8], at: usize) -> usize
     requires { at + length (decimal n) ≤ length out.old }
     ensures { (result ≡ at + length (decimal n)) × (out.new ≡ sets out.old at (decimal n)) }

@@ -15,7 +15,7 @@ use Rattle.masks.specs.declared.outcome.Refusal.{Refusal}
 use Rattle.masks.specs.declared.shape.Shape.{Shape}
 use Rattle.masks.specs.Outcome.{Gives, laid, number_of, value, refusal}
 use Rattle.masks.specs.Shape.{with_dims}
-use Rattle.masks.proofs.OutcomeLaws.{gives_refused, gives_done}
+use Rattle.masks.proofs.OutcomeLaws.{gives_refused, gives_ok}
 use Rattle.arithmetic.specs.Scalar.{test_of, was_planar}
 use Rattle.arithmetic.specs.Power.{is_negative, size_of, power_dims, power_of, power_tests, power}
 use Rattle.arithmetic.proofs.PowerLaws.{PowerAccepted, none_refused}
@@ -53,7 +53,7 @@ module _ (s : Shape) (y z : ℤ) (a out : List Float) (b : y ≡ z) where
     all_done : (after : List Float) (n : ℕ) (u : Shape) → after ≡ laid (power_of s y a) out → (s.dims ≤ 9 → n ≡ power_dims s (size_of y)) → u ≡ with_dims s n → Gives (power s z a (length out)) (Ok u) out after
     unfolding power
     all_done after n u q m w =
-        gives_done _ (value (with_dims s (power_dims s (size_of z))) (power_of s z a)) u out after (sym number ∙ d) refl
+        gives_ok _ (value (with_dims s (power_dims s (size_of z))) (power_of s z a)) u out after (sym number ∙ d) refl
         (w ∙ ap (with_dims s) (m known.0.small ∙ ap (λ (x : ℤ). power_dims s (size_of x)) b))
         (q ∙ ap (λ (x : ℤ). laid (power_of s x a) out) b)
 

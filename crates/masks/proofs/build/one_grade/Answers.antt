@@ -4,7 +4,7 @@ use native.Mathlib.Omega.{arith}
 use lib.ListN.{length}
 use Rattle.std.proofs.lemmas.Result.{err_from_is_err_and}
 use Rattle.masks.specs.Build.{one_grade}
-use Rattle.masks.proofs.OutcomeLaws.{gives_refused, gives_done}
+use Rattle.masks.proofs.OutcomeLaws.{gives_refused, gives_ok}
 use Rattle.masks.proofs.BuildLaws.{built_taken}
 use Rattle.masks.proofs.build.one_grade.Goals.{In_ok-built_refusal}
 use Rattle.masks.proofs.build.one_grade.Goals as goal
@@ -31,4 +31,4 @@ fill_grade-requires c = omega (arith, ok (goal.at.fill_grade-requires c).In_ok-b
 
 pub returns : goal.returns
 unfolding one_grade
-returns c = gives_done _ _ _ _ _ c.in_ok-built_refusal.ensures.0 refl c.shape_of.ensures c.fill_grade.ensures
+returns c = gives_ok _ _ _ _ _ c.in_ok-built_refusal.ensures.0 refl c.shape_of.ensures c.fill_grade.ensures

@@ -7,7 +7,7 @@ use Rattle.masks.specs.declared.build.Packing.TheVariants.{Full, Half, Grade}
 use Rattle.masks.specs.declared.outcome.Refusal.TheVariants.{TooManyDims, WrongCount, NoRoom}
 use Rattle.masks.specs.Build.{odd_of, packing, unpacked, blades_of_side}
 use Rattle.masks.proofs.ListLaws.{missing_err}
-use Rattle.masks.proofs.OutcomeLaws.{gives_refused, gives_done}
+use Rattle.masks.proofs.OutcomeLaws.{gives_refused, gives_ok}
 use Rattle.masks.proofs.BuildLaws.{Packs, packing_fits, grade_fits, pack_wide, pack_none, pack_short, pack_done}
 use Rattle.masks.proofs.build.pack.Goals.{In_ok-packing}
 use Rattle.masks.proofs.build.pack.Goals as goal
@@ -64,18 +64,18 @@ unfolding blades_of_side
 returns-in-Full c =
     let a = c.args in
     rw (found (goal.at.returns-in-Full c).In_ok-packing, c.in-Full.is)
-    (gives_done _ _ _ _ _ (pack_done a.dims (Some Full) (length a.out.now) (omega arith) refl (omega (arith, c.blades.ensures))) refl c.shape_of.ensures c.copy_all.ensures)
+    (gives_ok _ _ _ _ _ (pack_done a.dims (Some Full) (length a.out.now) (omega arith) refl (omega (arith, c.blades.ensures))) refl c.shape_of.ensures c.copy_all.ensures)
 
 pub returns-in-Half : goal.returns-in-Half
 unfolding blades_of_side
 returns-in-Half c =
     let a = c.args in
     rw (found (goal.at.returns-in-Half c).In_ok-packing, c.in-Half.is)
-    (gives_done _ _ _ _ _ (pack_done a.dims (Some Half) (length a.out.now) (omega arith) refl (omega (arith, c.blades.ensures))) refl c.shape_of-in-Half.ensures c.fill_half.ensures)
+    (gives_ok _ _ _ _ _ (pack_done a.dims (Some Half) (length a.out.now) (omega arith) refl (omega (arith, c.blades.ensures))) refl c.shape_of-in-Half.ensures c.fill_half.ensures)
 
 pub returns-in-Grade : goal.returns-in-Grade
 unfolding blades_of_side
 returns-in-Grade c =
     let a = c.args in
     rw (found (goal.at.returns-in-Grade c).In_ok-packing, c.in-Grade.is)
-    (gives_done _ _ _ _ _ (pack_done a.dims (Some (Grade c.in-Grade.g)) (length a.out.now) (omega arith) refl (omega (arith, c.blades.ensures))) refl c.shape_of-in-Grade.ensures c.fill_grade.ensures)
+    (gives_ok _ _ _ _ _ (pack_done a.dims (Some (Grade c.in-Grade.g)) (length a.out.now) (omega arith) refl (omega (arith, c.blades.ensures))) refl c.shape_of-in-Grade.ensures c.fill_grade.ensures)

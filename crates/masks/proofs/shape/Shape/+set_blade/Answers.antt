@@ -8,7 +8,7 @@ use Rattle.masks.specs.Outcome.{laid, Gives}
 use Rattle.masks.specs.Shape.{with_dims}
 use Rattle.masks.specs.Blade.{set_blade}
 use Rattle.masks.proofs.OrderLaws.{blades_le}
-use Rattle.masks.proofs.OutcomeLaws.{gives_refused, gives_done}
+use Rattle.masks.proofs.OutcomeLaws.{gives_refused, gives_ok}
 use Rattle.masks.proofs.ShapeLaws.{resized_held}
 use Rattle.masks.proofs.BladeLaws.{below_nine, dims_here, blade_here, Placed, placed, blade_grown}
 use Rattle.masks.proofs.shape.Shape.+set_blade.Goals.{In_ok-set_blade_refusal, Else-mask-blades}
@@ -60,7 +60,7 @@ returns-then-mask-blades t c =
     let a = c.args in
     let k = 9 - a.self.dims in
     let h : a.mask < 2 ^ a.self.dims = omega arith in
-    gives_done _ _ _ _ _ c.in_ok-set_blade_refusal.ensures.0 refl (ap (λ n. with_dims a.self n) (sym (dims_here k a.self.dims a.mask h)))
+    gives_ok _ _ _ _ _ c.in_ok-set_blade_refusal.ensures.0 refl (ap (λ n. with_dims a.self n) (sym (dims_here k a.self.dims a.mask h)))
     (c.put_blade.ensures ∙ ap (λ xs. laid xs a.out.now) (sym (blade_here k a.self.dims a.mask a.x a.a.now h)))
 
 pub invariant_of-value-2 : goal.invariant_of-value-2

@@ -7,7 +7,7 @@ use Rattle.masks.specs.Outcome.{refusal, laid, result_tests}
 use Rattle.masks.specs.Shape.{promotes, conformed, conformed_shape, conform_to}
 use Rattle.masks.proofs.ShapeLaws.{promotes_le, promoted_small}
 use Rattle.masks.proofs.OrderLaws.{none_counted}
-use Rattle.masks.proofs.OutcomeLaws.{Taken, taken, needed_same, gives_refused, gives_done, result_tests_same}
+use Rattle.masks.proofs.OutcomeLaws.{Taken, taken, needed_same, gives_refused, gives_ok, result_tests_same}
 use Rattle.masks.proofs.shape.Shape.conform_to.Goals.{After-refusal_of}
 use Rattle.masks.proofs.shape.Shape.conform_to.Goals as goal
 
@@ -64,5 +64,5 @@ returns c =
     let z = c.in_ok-refusal_of.ensures.0 in
     let e = c.promotion-up.ensures in
     let n = same r (ok r z).small in
-    gives_done _ _ _ _ _ (number r ∙ z) refl (c.conformed.ensures ∙ ap₂ (λ u n. conformed_shape u a.self n) e n)
+    gives_ok _ _ _ _ _ (number r ∙ z) refl (c.conformed.ensures ∙ ap₂ (λ u n. conformed_shape u a.self n) e n)
     (c.conform_by.ensures ∙ ap₂ (λ u n. laid (conformed u a.self.dims n a.a.now) a.out.now) e n)

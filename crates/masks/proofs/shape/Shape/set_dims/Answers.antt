@@ -7,7 +7,7 @@ use Rattle.masks.specs.Outcome.{refusal, laid, result_tests}
 use Rattle.masks.specs.Shape.{set_dims}
 use Rattle.masks.proofs.ShapeLaws.{conformed_none}
 use Rattle.masks.proofs.OrderLaws.{none_counted}
-use Rattle.masks.proofs.OutcomeLaws.{Taken, taken, needed_same, gives_refused, gives_done}
+use Rattle.masks.proofs.OutcomeLaws.{Taken, taken, needed_same, gives_refused, gives_ok}
 use Rattle.masks.proofs.shape.Shape.set_dims.Goals.{After-refusal_of}
 use Rattle.masks.proofs.shape.Shape.set_dims.Goals as goal
 
@@ -41,5 +41,5 @@ pub returns : goal.returns
 unfolding set_dims
 returns c =
     let a = c.args in
-    gives_done _ _ _ _ _ (number (goal.at.returns c).After-refusal_of ∙ c.in_ok-refusal_of.ensures.0) refl c.with_dims.ensures (c.conform_by.ensures
+    gives_ok _ _ _ _ _ (number (goal.at.returns c).After-refusal_of ∙ c.in_ok-refusal_of.ensures.0) refl c.with_dims.ensures (c.conform_by.ensures
     ∙ ap (λ xs. laid xs a.out.now) (sym (conformed_none 0 a.self.dims a.new_dims a.a.now refl)))

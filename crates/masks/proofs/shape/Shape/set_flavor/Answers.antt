@@ -7,7 +7,7 @@ use Rattle.masks.specs.Outcome.{refusal, laid, result_tests}
 use Rattle.masks.specs.Shape.{promotes, conformed, set_flavor}
 use Rattle.masks.proofs.ShapeLaws.{conformed_same, promotes_le, promoted_small}
 use Rattle.masks.proofs.OrderLaws.{none_counted}
-use Rattle.masks.proofs.OutcomeLaws.{Taken, taken, needed_same, gives_refused, gives_done, result_tests_same}
+use Rattle.masks.proofs.OutcomeLaws.{Taken, taken, needed_same, gives_refused, gives_ok, result_tests_same}
 use Rattle.masks.proofs.shape.Shape.set_flavor.Goals.{After-refusal_of}
 use Rattle.masks.proofs.shape.Shape.set_flavor.Goals as goal
 
@@ -62,7 +62,7 @@ returns c =
     let z = c.in_ok-refusal_of.ensures.0 in
     let t = ok r z in
     let up = promotes a.self.flavor a.flavor in
-    gives_done _ _ _ _ _ (number r ∙ z) refl
+    gives_ok _ _ _ _ _ (number r ∙ z) refl
     (c.with_flavor.ensures ∙ rw (c.with_dims.ensures, same r t.small))
     (c.conform_by.ensures
     ∙ ap₂ (λ u n. laid (conformed u a.self.dims n a.a.now) a.out.now) c.promotion-up.ensures (same r t.small)
