@@ -11,8 +11,6 @@ use lib.Dec.{eqb}
 use lib.Ieee.{Float, nan}
 use lib.ListN.{length, get_or, drop, drop_of_length-le}
 use lib.Seq.{drop-cons}
-use Rattle.std.specs.Bool.{MatchBool}
-use Rattle.std.specs.List.{AllWithin, HoldsAt}
 use Rattle.masks.specs.declared.flavor.Flavor.{Flavor}
 use Rattle.masks.specs.declared.flavor.Flavor.TheVariants.{Vanilla, Projective, Cl}
 use Rattle.masks.specs.declared.shape.Shape.{Shape}
@@ -91,11 +89,6 @@ zeros_from : (xs : List Float) → ((i : ℕ) → i < length xs → is_zero (get
 unfolding all_zero
 zeros_from [] h = refl
 zeros_from (x ∷ xs) h = rw (h 0 (omega arith)) (zeros_from xs (λ i l. h (suc i) (omega arith)))
-
--- What a search says that stops at the first number that doesn't equal zero.
-pub zeros_found : (r : Bool) (xs : List Float) → MatchBool r (AllWithin (λ x. is_zero x ≡ true) xs 0 (length xs)) ((k : ℕ) × (k < length xs) × HoldsAt (λ x. is_zero x ≡ false) xs k) → r ≡ all_zero xs
-zeros_found true xs h = sym (zeros_from xs (λ i l. h i nan (omega arith) l))
-zeros_found false xs h = sym (not_so (all_zero xs) (λ e. false≢true (sym (h.2 nan) ∙ zeros_at xs e h.0 h.1)))
 
 -- A value is scalar just where every place after 0 equals zero.
 pub scalar_at : (a : List Float) → is_scalar a ≡ true → (i : ℕ) → 0 < i → i < length a → is_zero (get_or a i nan) ≡ true

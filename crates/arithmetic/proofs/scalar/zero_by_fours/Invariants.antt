@@ -1,8 +1,11 @@
 use mathlib.Core.Path.{◌≡◌}
-use Prim.Native.Nat.{◌*◌}
-use lib.ListN.{drop}
+use Prim.Native.Nat.{◌-◌, ◌≤◌}
+use lib.ListN.{length, drop}
 use Rattle.arithmetic.specs.Scalar.{all_zero}
 use Rattle.arithmetic.proofs.scalar.zero_by_fours.Given as goal
 
-abbrev pub invariant-loop-k : goal.invariant-loop-k
-invariant-loop-k l = all_zero (drop 4 l.a) ≡ all_zero (drop (4 * l.k) l.a)
+abbrev pub invariant-loop-i : goal.invariant-loop-i
+invariant-loop-i l = (l.i ≤ length l.a) × (all_zero (drop 4 l.a) ≡ all_zero (drop l.i l.a))
+
+abbrev pub decreases-loop-i : goal.decreases-loop-i
+decreases-loop-i l = length l.a - l.i
