@@ -14,13 +14,11 @@ pub struct Plan<'a> {
     ghost enough: { 2 ^ shape.dims ≤ length given.now },
 }
 
-// a's numbers by mask, and the sums, one for each mask.
-#[derive(Drop)]
-pub struct Sums<'a> {
+// a's numbers by mask.
+#[derive(Clone, Copy)]
+pub struct Left<'a> {
     pub dims: u8,
     pub am: &'a [f64],
-    pub acc: &'a mut [f64],
     ghost few: { dims ≤ 9 },
     ghost left: { length am.now ≡ 2 ^ dims },
-    ghost sized: { length acc.now ≡ 2 ^ dims },
 }

@@ -8,11 +8,11 @@ ghost use Rattle.masks.specs.Order.{up_from};
 ghost use Rattle.masks.specs.Outcome.{laid, nought};
 ghost use Rattle.product.specs.Given.{at_mask};
 ghost use Rattle.product.specs.inner.Sums.{meets, with_pairs, subset_from, beyond, turned_mask, turned_number, turned_at, rows_below};
-ghost use Rattle.product.specs.inner.Plan.{plan_mask, taken_by, planned, Kept, paired};
+ghost use Rattle.product.specs.inner.Plan.{plan_mask, taken_by, planned, paired};
 
 use super::metric::{Blade, Squares, blade_of, squares_of};
 use super::mode::{Mode, flavor_for};
-use super::plan::{Plan, Sums};
+use super::plan::{Left, Plan};
 use super::snap::snap_one;
 
 // Whether the number of ones is odd. Those of a byte are counted in fewer operations, and only nine dimensions need more.
@@ -27,41 +27,38 @@ fn odd_ones(dims: u8, f: u32) -> usize
 }
 
 // One pair: a's number at the mask m times b's number, or times its negative where an odd number of m's vectors flip the sign. `ys` has both.
-fn add_pair(sums: &mut Sums, m: u32, blade: Blade, ys: &[f64])
-    requires { (m < 2 ^ sums.old.dims) × (blade.mask < 2 ^ sums.old.dims) × (length ys.now ≡ 2) }
-    ensures kept { Kept sums.old sums.new }
-    ensures added { sums.new.acc.now ≡ set sums.old.acc.now (bit_xor m blade.mask) (paired m blade ys.now sums.old) }
+fn add_pair(left: Left, acc: &mut [f64], m: u32, blade: Blade, ys: &[f64])
+    requires { (m < 2 ^ left.dims) × (blade.mask < 2 ^ left.dims) × (length ys.now ≡ 2) × (length acc.old ≡ 2 ^ left.dims) }
+    ensures { acc.new ≡ set acc.old (bit_xor m blade.mask) (paired m blade ys.now left.entry.am.now acc.old) }
 {
     let c = (m ^ blade.mask) as usize;
-    let sign = odd_ones(sums.dims, m & blade.flips);
-    sums.acc[c] = sums.acc[c] + sums.am[m as usize] * ys[sign];
+    let sign = odd_ones(left.dims, m & blade.flips);
+    acc[c] = acc[c] + left.am[m as usize] * ys[sign];
 }
 
 // A blade of b with every mask.
-fn add_all(sums: &mut Sums, blade: Blade, y: f64)
-    requires { blade.mask < 2 ^ sums.old.dims }
-    ensures kept { Kept sums.old sums.new }
-    ensures added { sums.new.acc.now ≡ with_pairs (λ m. true) blade y sums.old.am.now sums.old.acc.now }
+fn add_all(left: Left, acc: &mut [f64], blade: Blade, y: f64)
+    requires { (blade.mask < 2 ^ left.dims) × (length acc.old ≡ 2 ^ left.dims) }
+    ensures { acc.new ≡ with_pairs (λ m. true) blade y left.entry.am.now acc.old }
 {
     let ys = [y, -y];
-    for m in 0..sums.acc.len() as u32 {
-        add_pair(sums, m, blade, &ys);
+    for m in 0..acc.len() as u32 {
+        add_pair(left, acc, m, blade, &ys);
     }
 }
 
 // A blade of b with the masks that have `base` and a subset of `free`, which share no bit: the subsets in rising order, from the given one on.
-fn add_subsets(sums: &mut Sums, base: u32, free: u32, from: u32, blade: Blade, y: f64)
-    requires mask_bound { blade.mask < 2 ^ sums.old.dims }
-    requires free_bound { (base + free < 2 ^ sums.old.dims) × (bit_and base free ≡ 0) × (bit_and from free ≡ from) }
-    ensures kept { Kept sums.old sums.new }
-    ensures added { sums.new.acc.now ≡ with_pairs (subset_from base free from) blade y sums.old.am.now sums.old.acc.now }
+fn add_subsets(left: Left, acc: &mut [f64], base: u32, free: u32, from: u32, blade: Blade, y: f64)
+    requires mask_bound { (blade.mask < 2 ^ left.dims) × (length acc.old ≡ 2 ^ left.dims) }
+    requires free_bound { (base + free < 2 ^ left.dims) × (bit_and base free ≡ 0) × (bit_and from free ≡ from) }
+    ensures { acc.new ≡ with_pairs (subset_from base free from) blade y left.entry.am.now acc.old }
 {
     let ys = [y, -y];
-    let step = sums.acc.len() as u32 - free;
+    let step = acc.len() as u32 - free;
     let mut s = from;
     // It goes from subset to subset, and counts no index.
     loop {
-        add_pair(sums, base + s, blade, &ys);
+        add_pair(left, acc, base + s, blade, &ys);
         s = (s + step) & free;
         if s == 0 {
             return;
@@ -70,49 +67,47 @@ fn add_subsets(sums: &mut Sums, base: u32, free: u32, from: u32, blade: Blade, y
 }
 
 // A blade of b with the masks that it is within, but its own.
-fn add_beyond(sums: &mut Sums, blade: Blade, y: f64)
-    requires { blade.mask < 2 ^ sums.old.dims }
-    ensures kept { Kept sums.old sums.new }
-    ensures added { sums.new.acc.now ≡ with_pairs (beyond blade.mask) blade y sums.old.am.now sums.old.acc.now }
+fn add_beyond(left: Left, acc: &mut [f64], blade: Blade, y: f64)
+    requires { (blade.mask < 2 ^ left.dims) × (length acc.old ≡ 2 ^ left.dims) }
+    ensures { acc.new ≡ with_pairs (beyond blade.mask) blade y left.entry.am.now acc.old }
 {
-    let n = sums.acc.len() as u32;
+    let n = acc.len() as u32;
     let free = (n - 1) ^ blade.mask;
     if free != 0 {
-        add_subsets(sums, blade.mask, free, (n - free) & free, blade, y);
+        add_subsets(left, acc, blade.mask, free, (n - free) & free, blade, y);
     }
 }
 
 // All the pairs that a blade of b has.
-fn add_blade(sums: &mut Sums, mode: Mode, blade: Blade, y: f64)
-    requires mask_bound { blade.mask < 2 ^ sums.old.dims }
+fn add_blade(left: Left, acc: &mut [f64], mode: Mode, blade: Blade, y: f64)
+    requires mask_bound { (blade.mask < 2 ^ left.dims) × (length acc.old ≡ 2 ^ left.dims) }
     requires null_value { bit_and blade.mask blade.null ≡ blade.null }
-    ensures kept { Kept sums.old sums.new }
-    ensures added { sums.new.acc.now ≡ with_pairs (meets mode blade) blade y sums.old.am.now sums.old.acc.now }
+    ensures { acc.new ≡ with_pairs (meets mode blade) blade y left.entry.am.now acc.old }
 {
-    let full = sums.acc.len() as u32 - 1;
+    let full = acc.len() as u32 - 1;
     let b = blade.mask;
     let null = blade.null;
     match mode {
         Mode::All => {
             if null == 0 {
-                add_all(sums, blade, y);
+                add_all(left, acc, blade, y);
             } else {
-                add_subsets(sums, 0, full ^ null, 0, blade, y);
+                add_subsets(left, acc, 0, full ^ null, 0, blade, y);
             }
         }
-        Mode::Left => add_subsets(sums, 0, b ^ null, 0, blade, y),
+        Mode::Left => add_subsets(left, acc, 0, b ^ null, 0, blade, y),
         Mode::Right => {
             if null == 0 {
-                add_subsets(sums, b, full ^ b, 0, blade, y);
+                add_subsets(left, acc, b, full ^ b, 0, blade, y);
             }
         }
         Mode::Inner => {
-            add_subsets(sums, 0, b ^ null, 0, blade, y);
+            add_subsets(left, acc, 0, b ^ null, 0, blade, y);
             if null == 0 {
-                add_beyond(sums, blade, y);
+                add_beyond(left, acc, blade, y);
             }
         }
-        Mode::Outer => add_subsets(sums, 0, full ^ null, 0, blade, y),
+        Mode::Outer => add_subsets(left, acc, 0, full ^ null, 0, blade, y),
     }
 }
 
@@ -175,11 +170,11 @@ fn add_blades(plan: Plan, squares: Squares, turn: u32, b: &[f64], am: &[f64], ac
     ensures { let n = 2 ^ plan.entry.shape.dims in acc.new ≡ rows_below n (plan_mask plan.entry) turn plan.entry.mode squares am.now b.now n }
 {
     let dims = plan.shape.dims;
-    let mut sums = Sums { dims, am, acc };
+    let left = Left { dims, am };
     for (j, x) in b.iter().enumerate() {
         let m = mask_at(plan, j);
         let y = turned_number(turn, m, *x);
-        add_blade(&mut sums, plan.mode, blade_of(squares, m), y);
+        add_blade(left, acc, plan.mode, blade_of(squares, m), y);
     }
 }
 

@@ -1,5 +1,5 @@
--- What a plan makes of two lists of numbers, in terms of specs/Given, and what the sums keep. A reader need not believe this page. Assumes nothing.
-use Rattle.std.specs.Prelude.{◌≡◌, List, map, ℕ, ◌%◌, ◌^◌, Float, get_or}
+-- What a plan makes of two lists of numbers, in terms of specs/Given. A reader need not believe this page. Assumes nothing.
+use Rattle.std.specs.Prelude.{List, map, ℕ, ◌%◌, ◌^◌, Float, get_or}
 use Rattle.std.specs.Int.Bits.{bit_and, bit_xor}
 use Rattle.std.specs.Int.Count.{ones}
 use Rattle.std.specs.Float.{nan, binary64}
@@ -8,7 +8,6 @@ use Rattle.rounding.specs.Snap.{snap}
 use Rattle.masks.specs.Order.{up_from}
 use Rattle.product.specs.declared.metric.Blade.{Blade}
 use Rattle.product.specs.declared.plan.Plan.{Plan}
-use Rattle.product.specs.declared.plan.Sums.{Sums}
 use Rattle.product.specs.Given.{product_by}
 use Rattle.product.specs.inner.Sums.{low_mask}
 
@@ -24,11 +23,7 @@ taken_by p sums = map (λ k. snap binary64 (get_or sums (plan_mask p k) nan)) (u
 abbrev pub planned : Plan → List Float → List Float → List Float
 planned p = product_by (plan_mask p) p.shape.dims p.mode p.shape.flavor binary64
 
--- The sums stand where they stood, with the same dimensions and numbers of a.
-abbrev pub Kept : Sums → Sums → Type 0
-Kept before after = (after.acc.ghost_name ≡ before.acc.ghost_name) × (after.dims ≡ before.dims) × (after.am ≡ before.am)
-
 -- What the sum of the mask m's pair becomes: a's number times the one of two numbers that the sign picks is added.
-abbrev pub paired : ℕ → Blade → List Float → Sums → Float
-paired m b ys s =
-    add binary64 (get_or s.acc.now (bit_xor m b.mask) nan) (mul binary64 (get_or s.am.now m nan) (get_or ys (ones (bit_and m b.flips) % 2) nan))
+abbrev pub paired : ℕ → Blade → List Float → List Float → List Float → Float
+paired m b ys am acc =
+    add binary64 (get_or acc (bit_xor m b.mask) nan) (mul binary64 (get_or am m nan) (get_or ys (ones (bit_and m b.flips) % 2) nan))

@@ -1,4 +1,4 @@
-use mathlib.Core.Path.{◌≡◌, refl, sym, ◌∙◌, ap, ap₂}
+use mathlib.Core.Path.{◌≡◌, refl, sym, ◌∙◌, ap}
 use mathlib.Core.Bool.{Bool, true, false, ◌&&◌, ◌||◌, and-true}
 use mathlib.Core.List.{List}
 use Prim.Native.Nat.{ℕ, ◌+◌, ◌-◌, ◌^◌, ◌<◌}
@@ -8,7 +8,6 @@ use lib.Dec.{eqb}
 use lib.Ieee.{Float}
 use lib.ListN.{length}
 use borrow.Author.Tests.{eq-eqb}
-use Rattle.std.proofs.Common.{Bor}
 use Rattle.clifford.specs.Pairs.{within}
 use Rattle.product.specs.declared.mode.Mode.{Mode}
 use Rattle.product.specs.declared.mode.Mode.TheVariants.{All, Left, Right, Inner, Outer}
@@ -22,10 +21,10 @@ use Rattle.product.proofs.sums.add_blade.Goals as goal
 -- ---- what the function is given
 module _ (s : Start) where
   abbrev d : ℕ
-  d = s.args.sums.now.dims
+  d = s.args.left.dims
 
   abbrev n : ℕ
-  n = length s.args.sums.now.acc.now
+  n = length s.args.acc.now
 
   abbrev b : ℕ
   b = s.args.blade.mask
@@ -34,10 +33,10 @@ module _ (s : Start) where
   null = s.args.blade.null
 
   size : n ≡ 2 ^ d
-  size = s.args.sums.now.sized
+  size = s.requires.mask_bound.1
 
   b_lt : b < 2 ^ d
-  b_lt = s.requires.mask_bound
+  b_lt = s.requires.mask_bound.0
 
   inside : bit_and b null ≡ null
   inside = s.requires.null_value
@@ -47,13 +46,13 @@ module _ (s : Start) where
 
   -- The sums as they are given, with the pairs that pass a test.
   abbrev pairs : (ℕ → Bool) → List Float
-  pairs t = with_pairs t s.args.blade s.args.y s.args.sums.now.am.now s.args.sums.now.acc.now
+  pairs t = with_pairs t s.args.blade s.args.y s.args.left.am.now s.args.acc.now
 
   -- The masks that pass the test are those that meet the blade.
   by_mode : (mode : Mode) (t : ℕ → Bool) (w : List Float) → s.args.mode ≡ mode → ((m : ℕ) → m < 2 ^ d → t m ≡ meets mode s.args.blade m)
       → w ≡ pairs t → w ≡ pairs (meets s.args.mode s.args.blade)
   by_mode mode t w p h e =
-      e ∙ pairs_ext s.args.blade s.args.y s.args.sums.now.am.now d b_lt s.args.sums.now.acc.now size t (meets mode s.args.blade) h
+      e ∙ pairs_ext s.args.blade s.args.y s.args.left.am.now d b_lt s.args.acc.now size t (meets mode s.args.blade) h
       ∙ ap (λ (v : Mode). pairs (meets v s.args.blade)) (sym p)
 
   -- With no null vector each mask is free of them.
@@ -84,75 +83,74 @@ pub add_subsets-requires-in-Outer-clause-free_bound : goal.add_subsets-requires-
 add_subsets-requires-in-Outer-clause-free_bound c = all_asked (goal.at.add_subsets-requires-in-Outer-clause-free_bound c).Start
 
 -- All, no null vector.
-pub returns-then-null-eq0-clause-added : goal.returns-then-null-eq0-clause-added
+pub returns-then-null-eq0 : goal.returns-then-null-eq0
 unfolding takes
-returns-then-null-eq0-clause-added c =
-    let s = (goal.at.returns-then-null-eq0-clause-added c).Start in
-    by_mode s All (λ m. true) _ c.in-All.is (λ m h. sym (none_null s c.if-null-eq0.true m)) c.add_all.ensures.added
+returns-then-null-eq0 c =
+    let s = (goal.at.returns-then-null-eq0 c).Start in
+    by_mode s All (λ m. true) _ c.in-All.is (λ m h. sym (none_null s c.if-null-eq0.true m)) c.add_all.ensures
 
 -- All.
-pub returns-else-null-eq0-clause-added : goal.returns-else-null-eq0-clause-added
+pub returns-else-null-eq0 : goal.returns-else-null-eq0
 unfolding takes
-returns-else-null-eq0-clause-added c =
-    let s = (goal.at.returns-else-null-eq0-clause-added c).Start in
+returns-else-null-eq0 c =
+    let s = (goal.at.returns-else-null-eq0 c).Start in
     by_mode s All (subset_from 0 (bit_xor (n s - 1) (null s)) 0) _ c.in-All.is (all_test (d s) (n s) (size s) (null s) (null_lt s))
-    c.add_subsets.ensures.added
+    c.add_subsets.ensures
 
 -- Left.
-pub returns-in-Left-clause-added : goal.returns-in-Left-clause-added
+pub returns-in-Left : goal.returns-in-Left
 unfolding takes
-returns-in-Left-clause-added c =
-    let s = (goal.at.returns-in-Left-clause-added c).Start in
+returns-in-Left c =
+    let s = (goal.at.returns-in-Left c).Start in
     by_mode s Left (subset_from 0 (bit_xor (b s) (null s)) 0) _ c.in-Left.is (λ m h. left_test (d s) (b s) (null s) (b_lt s) (inside s) m)
-    c.add_subsets-in-Left.ensures.added
+    c.add_subsets-in-Left.ensures
 
 -- Right, no null vector.
-pub returns-then-null-eq0-2-clause-added : goal.returns-then-null-eq0-2-clause-added
+pub returns-then-null-eq0-2 : goal.returns-then-null-eq0-2
 unfolding takes
-returns-then-null-eq0-2-clause-added c =
-    let s = (goal.at.returns-then-null-eq0-2-clause-added c).Start in
+returns-then-null-eq0-2 c =
+    let s = (goal.at.returns-then-null-eq0-2 c).Start in
     by_mode s Right (subset_from (b s) (bit_xor (n s - 1) (b s)) 0) _ c.in-Right.is
     (λ m h.
     right_test (d s) (n s) (size s) (b s) (b_lt s) m h
     ∙ sym (ap (λ x. within (b s) m && x) (none_null s c.if-null-eq0-2.true m) ∙ and-true (within (b s) m)))
-    c.add_subsets-then-null-eq0-2.ensures.added
+    c.add_subsets-then-null-eq0-2.ensures
 
 -- Right: no mask has all of b and is free of null vectors.
-pub returns-else-null-eq0-2-clause-added : goal.returns-else-null-eq0-2-clause-added
+pub returns-else-null-eq0-2 : goal.returns-else-null-eq0-2
 unfolding takes
-returns-else-null-eq0-2-clause-added c =
-    let s = (goal.at.returns-else-null-eq0-2-clause-added c).Start in
+returns-else-null-eq0-2 c =
+    let s = (goal.at.returns-else-null-eq0-2 c).Start in
     let a = c.args in
-    by_mode s Right (λ m. false) a.sums.now.acc.now c.in-Right.is (λ m h. sym (right_none (d s) (b s) (null s) (b_lt s) (inside s) m c.if-null-eq0-2.false))
-    (sym (pairs_none a.blade a.y a.sums.now.am.now (d s) (b_lt s) a.sums.now.acc.now (size s) (λ m. false) (λ m h. refl)))
+    by_mode s Right (λ m. false) a.acc.now c.in-Right.is (λ m h. sym (right_none (d s) (b s) (null s) (b_lt s) (inside s) m c.if-null-eq0-2.false))
+    (sym (pairs_none a.blade a.y a.left.am.now (d s) (b_lt s) a.acc.now (size s) (λ m. false) (λ m h. refl)))
 
 -- Inner, no null vector.
-pub returns-then-null-eq0-3-clause-added : goal.returns-then-null-eq0-3-clause-added
+pub returns-then-null-eq0-3 : goal.returns-then-null-eq0-3
 unfolding takes
-returns-then-null-eq0-3-clause-added c =
-    let s = (goal.at.returns-then-null-eq0-3-clause-added c).Start in
+returns-then-null-eq0-3 c =
+    let s = (goal.at.returns-then-null-eq0-3 c).Start in
     let a = c.args in
     let t = subset_from 0 (bit_xor (b s) (null s)) 0 in
     by_mode s Inner (λ m. t m || beyond (b s) m) _ c.in-Inner.is
     (λ m h. inner_both (d s) (b s) (null s) (b_lt s) (inside s) m c.if-null-eq0-3.true)
-    (c.add_beyond.ensures.added
-    ∙ ap₂ (λ (u v : List Float). with_pairs (beyond (b s)) a.blade a.y u v) (ap (λ (u : Bor (List Float)). u.now) c.add_subsets-in-Inner.ensures.kept.2)
-    c.add_subsets-in-Inner.ensures.added
-    ∙ pairs_both a.blade a.y a.sums.now.am.now (d s) (b_lt s) a.sums.now.acc.now (size s) t (beyond (b s))
+    (c.add_beyond.ensures
+    ∙ ap (with_pairs (beyond (b s)) a.blade a.y a.left.am.now) c.add_subsets-in-Inner.ensures
+    ∙ pairs_both a.blade a.y a.left.am.now (d s) (b_lt s) a.acc.now (size s) t (beyond (b s))
     (λ m h. inner_apart (d s) (b s) (null s) (b_lt s) (inside s) m))
 
 -- Inner.
-pub returns-else-null-eq0-3-clause-added : goal.returns-else-null-eq0-3-clause-added
+pub returns-else-null-eq0-3 : goal.returns-else-null-eq0-3
 unfolding takes
-returns-else-null-eq0-3-clause-added c =
-    let s = (goal.at.returns-else-null-eq0-3-clause-added c).Start in
+returns-else-null-eq0-3 c =
+    let s = (goal.at.returns-else-null-eq0-3 c).Start in
     by_mode s Inner (subset_from 0 (bit_xor (b s) (null s)) 0) _ c.in-Inner.is
-    (λ m h. inner_null (d s) (b s) (null s) (b_lt s) (inside s) m c.if-null-eq0-3.false) c.add_subsets-in-Inner.ensures.added
+    (λ m h. inner_null (d s) (b s) (null s) (b_lt s) (inside s) m c.if-null-eq0-3.false) c.add_subsets-in-Inner.ensures
 
 -- Outer.
-pub returns-in-Outer-clause-added : goal.returns-in-Outer-clause-added
+pub returns-in-Outer : goal.returns-in-Outer
 unfolding takes
-returns-in-Outer-clause-added c =
-    let s = (goal.at.returns-in-Outer-clause-added c).Start in
+returns-in-Outer c =
+    let s = (goal.at.returns-in-Outer c).Start in
     by_mode s Outer (subset_from 0 (bit_xor (n s - 1) (null s)) 0) _ c.in-Outer.is (all_test (d s) (n s) (size s) (null s) (null_lt s))
-    c.add_subsets-in-Outer.ensures.added
+    c.add_subsets-in-Outer.ensures

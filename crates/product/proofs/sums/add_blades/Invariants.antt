@@ -1,13 +1,8 @@
 use mathlib.Core.Path.{◌≡◌}
 use Prim.Native.Nat.{◌^◌}
 use Rattle.product.specs.inner.Sums.{rows_below}
-use Rattle.product.specs.inner.Plan.{plan_mask, Kept}
+use Rattle.product.specs.inner.Plan.{plan_mask}
 use Rattle.product.proofs.sums.add_blades.Given as goal
 
 abbrev pub invariant-loop-j : goal.invariant-loop-j
-invariant-loop-j l =
-    let s = l.initial.sums in
-    record {
-      kept : Kept s l.sums;
-      added : l.sums.acc.now ≡ rows_below (2 ^ l.plan.shape.dims) (plan_mask l.plan) l.turn l.plan.mode l.squares s.am.now l.b l.j;
-    }
+invariant-loop-j l = l.acc ≡ rows_below (2 ^ l.plan.shape.dims) (plan_mask l.plan) l.turn l.plan.mode l.squares l.am l.b l.j

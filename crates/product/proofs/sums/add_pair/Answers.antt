@@ -6,11 +6,11 @@ use Rattle.product.proofs.sums.add_pair.Goals.{Start}
 use Rattle.product.proofs.sums.add_pair.Goals as goal
 
 -- The sum's mask is one of the masks.
-low : (c : Start) → bit_xor c.args.m c.args.blade.mask < length c.args.sums.now.acc.now
-low c = let s = c.args.sums.now in omega (arith, s.sized, xor_lt s.dims c.args.m c.args.blade.mask c.requires.0 c.requires.1)
+low : (c : Start) → bit_xor c.args.m c.args.blade.mask < length c.args.acc.now
+low c = omega (arith, c.requires.3, xor_lt c.args.left.dims c.args.m c.args.blade.mask c.requires.0 c.requires.1)
 
-pub bounds-sums-c : goal.bounds-sums-c
-bounds-sums-c c = low (goal.at.bounds-sums-c c).Start
+pub bounds-acc-c : goal.bounds-acc-c
+bounds-acc-c c = low (goal.at.bounds-acc-c c).Start
 
-pub bounds-sums-c-2 : goal.bounds-sums-c-2
-bounds-sums-c-2 c = low (goal.at.bounds-sums-c-2 c).Start
+pub bounds-acc-c-2 : goal.bounds-acc-c-2
+bounds-acc-c-2 c = low (goal.at.bounds-acc-c-2 c).Start

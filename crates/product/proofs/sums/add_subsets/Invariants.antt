@@ -4,7 +4,6 @@ use Prim.Native.Nat.{ℕ, ◌-◌, ◌≤◌}
 use lib.Bits.{bit_and}
 use lib.Dec.{ltb}
 use Rattle.product.specs.inner.Sums.{with_pairs, subset_from}
-use Rattle.product.specs.inner.Plan.{Kept}
 use Rattle.product.proofs.sums.add_subsets.Given as goal
 
 -- A mask that passes has a subset before s.
@@ -13,12 +12,10 @@ before base free from s m = subset_from base free from m && ltb (bit_and m free)
 
 abbrev pub invariant-loop-s : goal.invariant-loop-s
 invariant-loop-s l =
-    let s = l.initial.sums in
     record {
       subset : bit_and l.s l.free ≡ l.s;
       later : l.from ≤ l.s;
-      kept : Kept s l.sums;
-      added : l.sums.acc.now ≡ with_pairs (before l.base l.free l.from l.s) l.blade l.y s.am.now s.acc.now;
+      added : l.acc ≡ with_pairs (before l.base l.free l.from l.s) l.blade l.y l.left.am.now l.initial.acc;
     }
 
 abbrev pub decreases-loop-s : goal.decreases-loop-s
