@@ -155,7 +155,7 @@ module _ (a b : List Float) (i : ℕ) where
 same_next : (a b : List Float) (i j : ℕ) → j ≡ i + 1 → i < length a → length a ≡ length b → eq (get_or a i nan) (get_or b i nan) ≡ true → compared_places (drop i a) (drop i b) ≡ compared_places (drop j a) (drop j b)
 same_next a b i j e l k q = at_place a b i Equal l (omega arith) (equal_compared _ _ q) ∙ ap (λ (n : ℕ). compared_places (drop n a) (drop n b)) (sym e)
 
-four_same : (a b : List Float) (i : ℕ) (w x y z : Bool) → i + 4 ≤ length a → length a ≡ length b
+pub four_same : (a b : List Float) (i : ℕ) (w x y z : Bool) → i + 4 ≤ length a → length a ≡ length b
     → eq (get_or a i nan) (get_or b i nan) ≡ w → eq (get_or a (i + 1) nan) (get_or b (i + 1) nan) ≡ x → eq (get_or a (i + 2) nan) (get_or b (i + 2) nan) ≡ y → eq (get_or a (i + 3) nan) (get_or b (i + 3) nan) ≡ z
     → (((w && x) && y) && z) ≡ true → compared_places (drop i a) (drop i b) ≡ compared_places (drop (i + 4) a) (drop (i + 4) b)
 four_same a b i w x y z l k p q r s t =

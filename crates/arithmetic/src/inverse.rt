@@ -11,7 +11,7 @@ use super::kept::kept_refusal;
 use super::scalar::{ScalarTest, test_of};
 use super::scale::{negate, scale};
 use super::value::Value;
-use masks::outcome::Refusal;
+use masks::outcome::{Refusal, lay};
 use masks::shape::Shape;
 use product::mode::Mode;
 use product::products::multiply;
@@ -43,7 +43,7 @@ fn test_square_in<const N: usize>(given: &[u16], value: Value) -> ScalarTest
     let Value { shape, numbers: a } = value;
     let mut x = [0.0; N];
     let mut square = [0.0; N];
-    x[..a.len()].copy_from_slice(a);
+    lay(a, &mut x[..a.len()]);
     x[0] = a[0] + -a[0];
     let numbers = &x[..a.len()];
     put_square(given, Value { shape, numbers }, &mut square);
@@ -92,7 +92,7 @@ fn put_general(given: &[u16], value: Value, out: &mut [f64])
     let Value { shape, numbers: a } = value;
     match test_square(given, value) {
         ScalarTest::Scalar(q) => {
-            out[..a.len()].copy_from_slice(a);
+            lay(a, &mut out[..a.len()]);
             put_by_square(a.len(), q, out);
         }
         _ => put_nan(shape.dims, a.len(), out),
@@ -104,7 +104,7 @@ fn put_reciprocal(f: f64, value: Value, out: &mut [f64])
     requires { 2 ^ value.shape.dims ≤ length out.old }
     ensures { out.new ≡ laid (set value.entry.numbers.now 0 (reciprocal f)) out.old }
 {
-    out[..value.numbers.len()].copy_from_slice(value.numbers);
+    lay(value.numbers, &mut out[..value.numbers.len()]);
     out[0] = 1.0 / f;
 }
 

@@ -15,7 +15,7 @@ use super::scalar::test_of;
 use super::value::Value;
 use masks::build::scalar;
 use masks::order::{blades_or_none, put_order};
-use masks::outcome::{Refusal, refusal_of};
+use masks::outcome::{Refusal, lay, refusal_of};
 use masks::shape::Shape;
 
 // Whether the power is 1, 2, -1 or -2.
@@ -60,7 +60,7 @@ fn mul_front(given: &[u16], grown: Shape, base: Value, next: &mut [f64], out: &m
 {
     let n = blades_or_none(grown.dims);
     let _ = mul_by(given, grown, base.shape, &out[..n], base.numbers, next);
-    out[..n].copy_from_slice(&next[..n]);
+    lay(&next[..n], &mut out[..n]);
 }
 
 // The value in the front of the base becomes its square. An array for the square is lent.
@@ -71,7 +71,7 @@ fn square_front(given: &[u16], shape: Shape, n: usize, next: &mut [f64], base: &
 {
     let numbers = &base[..n];
     put_square(given, Value { shape, numbers }, next);
-    base[..n].copy_from_slice(&next[..n]);
+    lay(&next[..n], &mut base[..n]);
 }
 
 // The power by the exponent's digits, low bit first: `*` by the base, then the base squared. Arrays for the base and for what comes next are lent, and
@@ -93,7 +93,7 @@ fn raise_in(
 {
     let Value { shape, numbers: x } = value;
     let grown = scalar(shape.dims, 1.0, shape.flavor, out).unwrap();
-    base[..x.len()].copy_from_slice(x);
+    lay(x, &mut base[..x.len()]);
     let mut p = power;
     // It goes from digit to digit, and counts no index.
     while 0 < p {
@@ -158,7 +158,7 @@ fn raise(given: &[u16], value: Value, power: u32, out: &mut [f64])
 {
     if power == 1 {
         let x = value.numbers;
-        out[..x.len()].copy_from_slice(x);
+        lay(x, &mut out[..x.len()]);
         return;
     }
     if power == 2 {

@@ -157,7 +157,7 @@ fn fill_half(parity: Parity, dims: u8, v: &[f64], out: &mut [f64])
 {
     let mut i = 0;
     let mut k = 0;
-    for g in 0..=dims {
+    for g in 0..dims + 1 {
         let count = size_of(dims, g);
         if parity.has(g) {
             copy_part(v, i, count, out, k);

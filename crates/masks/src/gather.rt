@@ -7,6 +7,7 @@ ghost use Rattle.masks.specs.Shape.{coef, negates, resized, promoted, conformed}
 
 use super::coefs::Coefs;
 use super::order::{blades, place_of, size_of};
+use super::outcome::lay;
 use super::walk::{grow, shrink};
 use std::cmp::Ordering;
 
@@ -27,7 +28,7 @@ pub(crate) fn copy_all(a: &[f64], out: &mut [f64])
     requires { length a.now ≤ length out.old }
     ensures { out.new ≡ laid a.now out.old }
 {
-    out[..a.len()].copy_from_slice(a);
+    lay(a, &mut out[..a.len()]);
 }
 
 // `count` numbers from the place `first` on, written from the place `at` on.
@@ -36,7 +37,7 @@ pub(crate) fn copy_part(a: &[f64], first: usize, count: usize, out: &mut [f64], 
     requires { (first + count ≤ length a.now) × (at + count ≤ length out.old) }
     ensures { out.new ≡ sets out.old at (take count (drop first a.now)) }
 {
-    out[at..at + count].copy_from_slice(&a[first..first + count]);
+    lay(&a[first..first + count], &mut out[at..at + count]);
 }
 
 // +0 at `count` places from `at` on.
@@ -126,4 +127,19 @@ pub(crate) fn conform_by(up: u8, value: Coefs, new_dims: u8, out: &mut [f64])
     promote(value, &mut held);
     let numbers = &held[..blades(dims)];
     resize(Coefs { dims, numbers }, new_dims, out);
+}
+
+// The same; where nothing is promoted and the dimensions stay it is copied, without the array that `conform_by` is entered with.
+#[inline(always)]
+pub(crate) fn conform_one(up: u8, value: Coefs, new_dims: u8, out: &mut [f64])
+    requires { (up ≤ 1) × (value.dims + up ≤ 9) × (new_dims ≤ 9) × (2 ^ new_dims ≤ length out.old) }
+    ensures { out.new ≡ laid (conformed up value.entry.dims new_dims value.entry.numbers.now) out.old }
+{
+    if up == 0 {
+        if value.dims == new_dims {
+            copy_all(value.numbers, out);
+            return;
+        }
+    }
+    conform_by(up, value, new_dims, out);
 }

@@ -1,6 +1,6 @@
 // Why calls are refused, and the tests that lead to it.
-ghost use Rattle.std.specs.Prelude.{◌≡◌};
-ghost use Rattle.masks.specs.Outcome.{number_of, IsAnswer, shape_of, refusal, value_tests, result_tests, pair_tests};
+ghost use Rattle.std.specs.Prelude.{◌≡◌, length, take};
+ghost use Rattle.masks.specs.Outcome.{number_of, IsAnswer, laid, shape_of, refusal, value_tests, result_tests, pair_tests};
 
 use super::flavor::Flavor;
 use super::order::blades;
@@ -32,6 +32,16 @@ impl Refusal {
         ensures { result ≡ number_of self }
     {
         self as u8
+    }
+}
+
+// Items from the front of an output, as far as it has room. One by one: `copy_from_slice` wants memmove from outside the archive.
+pub fn lay<T: Copy>(items: &[T], out: &mut [T])
+    ensures { out.new ≡ laid (take (length out.old) items.now) out.old }
+{
+    let count = items.len().min(out.len());
+    for (i, item) in items[..count].iter().enumerate() {
+        out[i] = *item;
     }
 }
 

@@ -5,7 +5,7 @@ ghost use Rattle.masks.specs.Shape.{with_dims, with_flavor, promotes, conformed,
 
 use super::coefs::Coefs;
 use super::flavor::Flavor;
-use super::gather::conform_by;
+use super::gather::conform_one;
 use super::order::{blades, blades_or_none};
 use super::outcome::{MAX_DIMS, Refusal, pair_refusal, refusal_of};
 
@@ -90,7 +90,7 @@ impl Shape {
     {
         let dims = self.dims;
         refusal_of(dims, new_dims, a.len(), out.len(), blades_or_none(new_dims))?;
-        conform_by(0, Coefs { dims, numbers: a }, new_dims, out);
+        conform_one(0, Coefs { dims, numbers: a }, new_dims, out);
         Ok(self.with_dims(new_dims))
     }
 
@@ -103,7 +103,7 @@ impl Shape {
         let up = promotion(own, flavor);
         let n = dims.saturating_add(up);
         refusal_of(dims, n, a.len(), out.len(), blades_or_none(n))?;
-        conform_by(up, Coefs { dims, numbers: a }, n, out);
+        conform_one(up, Coefs { dims, numbers: a }, n, out);
         Ok(self.with_dims(n).with_flavor(flavor))
     }
 
@@ -117,7 +117,7 @@ impl Shape {
         let up = promotion(own, theirs);
         let n = dims.saturating_add(up).max(other.dims);
         refusal_of(dims, n, a.len(), out.len(), blades_or_none(n))?;
-        conform_by(up, Coefs { dims, numbers: a }, n, out);
+        conform_one(up, Coefs { dims, numbers: a }, n, out);
         Ok(self.conformed(up, n))
     }
 
@@ -150,12 +150,12 @@ impl Shape {
             out.len(),
             out_right.len(),
         )?;
-        conform_by(up, Coefs { dims, numbers: a }, n, out);
+        conform_one(up, Coefs { dims, numbers: a }, n, out);
         let value_right = Coefs {
             dims: dims_right,
             numbers: b,
         };
-        conform_by(up_right, value_right, n, out_right);
+        conform_one(up_right, value_right, n, out_right);
         let left = self.conformed(up, n);
         let right = other.conformed(up_right, n);
         Ok((left, right))

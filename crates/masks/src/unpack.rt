@@ -31,7 +31,7 @@ fn take_half(parity: Parity, value: Coefs, out: &mut [f64])
     let Coefs { dims, numbers } = value;
     let mut i = 0;
     let mut k = 0;
-    for g in 0..=dims {
+    for g in 0..dims + 1 {
         let count = size_of(dims, g);
         if parity.has(g) {
             copy_part(numbers, i, count, out, k);

@@ -12,7 +12,7 @@ use super::outcome::Replay;
 use super::step::take_turn;
 use super::value::{put_named, put_starts, put_value};
 use masks::order::blades_or_none;
-use masks::outcome::Refusal;
+use masks::outcome::{Refusal, lay};
 use masks::shape::Shape;
 use sheets::read::check;
 use sheets::shapes::Shapes;
@@ -26,7 +26,7 @@ fn put_first(n: usize, a: &[f64], out: &mut [f64])
     requires { (n ≤ length a.now) × (n ≤ length out.old) }
     ensures { out.new ≡ laid (take n a.now) out.old }
 {
-    out[..n].copy_from_slice(&a[..n]);
+    lay(&a[..n], &mut out[..n]);
 }
 
 // The end of a replay: the pose, from the front of its array.

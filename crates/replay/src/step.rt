@@ -9,7 +9,7 @@ use arithmetic::compare::eq;
 use arithmetic::operators::mul;
 use arithmetic::reverse::reverse;
 use masks::order::blades_or_none;
-use masks::outcome::Refusal;
+use masks::outcome::{Refusal, lay};
 use masks::shape::Shape;
 
 // A step that was tried: the shape of the pose after it, which a halting step has too, and whether it is one that fires.
@@ -41,7 +41,7 @@ fn halt_if_equal(
     ensures { (k : ℕ) → Tries (Halt k) (value shape a.now) (value other b.now) result out.old out.new }
 {
     let halts = eq(shape, other, a, b)?;
-    out[..a.len()].copy_from_slice(a);
+    lay(a, &mut out[..a.len()]);
     Ok(Tried { shape, halts })
 }
 

@@ -73,7 +73,7 @@ shapes_every [] = refl
 shapes_every (c ∷ cs) = ap (λ (b : Bool). is_shape c && b) (shapes_every cs)
 
 -- the shapes pass where each does
-shapes_all : (cs : List (List ℕ)) → ((i : ℕ) → i < length cs → is_shape (get_or cs i []) ≡ true) → are_shapes cs ≡ true
+pub shapes_all : (cs : List (List ℕ)) → ((i : ℕ) → i < length cs → is_shape (get_or cs i []) ≡ true) → are_shapes cs ≡ true
 unfolding are_shapes
 shapes_all [] h = refl
 shapes_all (c ∷ cs) h = ap₂ ◌&&◌ (h 0 (zero-lt-suc (length cs))) (shapes_all cs (λ i l. h (suc i) (suc-le-suc l)))

@@ -56,6 +56,7 @@ fn shape_in(six: [u8; 6]) -> Shape
 }
 
 // The shapes that f makes of each item: all are counted, and the first 64 held.
+#[inline(never)]
 pub(crate) fn shapes_by<A: Copy, F: Fn(A) -> Shape>(items: &[A], f: F) -> Shapes
     requires { F.IsAlwaysCallable f }
     ensures { (g : A → Shape) → Makes (F.post f) g items.now → result ≡ shapes_of (map g items.now) }

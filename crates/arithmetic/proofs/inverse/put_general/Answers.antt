@@ -7,6 +7,7 @@ use lib.ListN.{length, get_or, take, drop}
 use lib.Pow.{pow_pos}
 use Rattle.masks.specs.declared.shape.Shape.{Shape}
 use Rattle.masks.specs.Outcome.{laid}
+use Rattle.masks.proofs.ListLaws.{lay_front}
 use Rattle.arithmetic.specs.declared.scalar.ScalarTest.{ScalarTest}
 use Rattle.arithmetic.specs.Scalar.{test_of, if_scalar}
 use Rattle.arithmetic.specs.Inverse.{square_of, less_scalar, by_square, nanified, general_inverse}
@@ -33,7 +34,7 @@ pub returns-in-Scalar : goal.returns-in-Scalar
 unfolding if_scalar
 returns-in-Scalar c =
     let a = c.args in
-    by_copy a.value.numbers.now a.out.now (c.copy_from_slice.new.self ++ drop (length a.value.numbers.now) a.out.now) _ c.in-Scalar.q (omega (arith, c.args.value.counted, pow_pos a.value.shape.dims)) (ap (λ (xs : List Float). xs ++ drop (length a.value.numbers.now) a.out.now) c.copy_from_slice.ensures.after) c.put_by_square.ensures
+    by_copy a.value.numbers.now a.out.now (c.lay.new.out ++ drop (length a.value.numbers.now) a.out.now) _ c.in-Scalar.q (omega (arith, c.args.value.counted, pow_pos a.value.shape.dims)) (ap (λ (xs : List Float). xs ++ drop (length a.value.numbers.now) a.out.now) (c.lay.ensures ∙ lay_front a.value.numbers.now a.out.now (omega (arith, c.requires.room, c.args.value.counted)))) c.put_by_square.ensures
     ∙ general_by a.value.shape a.value.numbers.now a.out.now _ c.in-Scalar.ensures
 
 pub returns-in_default : goal.returns-in_default

@@ -11,6 +11,7 @@ use Rattle.masks.specs.declared.shape.Shape.{Shape}
 use Rattle.masks.specs.Flavor.{added_dims}
 use Rattle.masks.specs.Outcome.{Outcome, Gives, laid}
 use Rattle.masks.specs.Shape.{with_dims}
+use Rattle.masks.proofs.ListLaws.{lay_part}
 use Rattle.masks.proofs.OrderLaws.{none_counted}
 use Rattle.arithmetic.specs.Operators.{multiplication}
 use Rattle.arithmetic.proofs.OrderPassed.{passed_grown}
@@ -45,5 +46,6 @@ returns c =
     let a = c.args in
     let v = c.requires.grown_value in
     let x = c.requires.room in
+    let k = none_counted c.blades_or_none-n.ensures v.1 in
     replaced a.grown a.base.shape v.0 c.blades_or_none-n.result a.base.numbers.now a.next.now _ a.out.now _ c.mul_by.result
-    v.1 (none_counted c.blades_or_none-n.ensures v.1) a.base.counted x.0 x.1 c.mul_by.ensures c.copy_from_slice.ensures.after
+    v.1 k a.base.counted x.0 x.1 c.mul_by.ensures (c.lay.ensures ∙ lay_part c.blades_or_none-n.result c.mul_by.new.out a.out.now (omega (arith, k, c.mul_by.auto.out, x.1)) (omega (arith, k, x.0)))

@@ -1,4 +1,4 @@
-use mathlib.Core.Path.{◌≡◌, sym, ap}
+use mathlib.Core.Path.{◌≡◌, sym, ap, ◌∙◌}
 use mathlib.Core.List.{List, ◌++◌}
 use Prim.Native.Nat.{ℕ, ◌+◌, ◌^◌, ◌≤◌}
 use native.Mathlib.Omega.{arith}
@@ -8,8 +8,10 @@ use lib.ListN.{length, drop}
 use Rattle.masks.specs.declared.shape.Shape.{Shape}
 use Rattle.masks.specs.Flavor.{added_dims}
 use Rattle.masks.specs.Outcome.{laid}
+use Rattle.masks.proofs.ListLaws.{lay_whole}
 use Rattle.arithmetic.specs.Inverse.{square_of}
 use Rattle.arithmetic.specs.Power.{is_direct, power_dims, by_digits, raised_to}
+use Rattle.arithmetic.proofs.PowerLaws.{first_taken}
 use Rattle.arithmetic.proofs.power.raise.Goals as goal
 
 module _ (s : Shape) (p : ℕ) (x : List Float) where
@@ -46,7 +48,7 @@ laid_as out e h = rw e h
 pub returns-then-power-eq1 : goal.returns-then-power-eq1
 returns-then-power-eq1 c =
     let a = c.args in
-    laid_as a.out.now (raised_one a.value.shape a.power a.value.numbers.now c.if-power-eq1.true) (ap (λ (xs : List Float). xs ++ drop (length a.value.numbers.now) a.out.now) c.copy_from_slice.ensures.after)
+    laid_as a.out.now (raised_one a.value.shape a.power a.value.numbers.now c.if-power-eq1.true) (ap (λ (xs : List Float). xs ++ drop (length a.value.numbers.now) a.out.now) (c.lay.ensures ∙ lay_whole _ _ (first_taken a.value.shape a.power a.value.numbers.now a.out.now c.if-power-eq1.true a.value.counted c.requires.room)))
 
 pub put_square-requires-clause-room : goal.put_square-requires-clause-room
 put_square-requires-clause-room c = room (dims_two c.args.value.shape c.args.power c.args.value.numbers.now c.if-power-eq1.false c.if-power-eq2.true) c.requires.room

@@ -18,7 +18,7 @@ use Rattle.masks.specs.Order.{start}
 use Rattle.masks.specs.Outcome.{Outcome, Gives, IsAnswer, value, laid}
 use Rattle.masks.specs.Shape.{with_dims}
 use Rattle.masks.proofs.BuildLaws.{length_grade_set, one_built}
-use Rattle.masks.proofs.ListLaws.{laid_length, take_laid}
+use Rattle.masks.proofs.ListLaws.{lay_front, laid_length, take_laid}
 use Rattle.masks.proofs.OutcomeLaws.{refuses}
 use Rattle.product.proofs.ListLaws.{laid_over}
 use Rattle.masks.proofs.OrderLaws.{blades_le}
@@ -186,6 +186,10 @@ shape_is : (c : At-loop-p) → c.unwrap-grown.result ≡ grown c.args.value.shap
 unfolding of_bits of_fields
 shape_is c = begun_shape c.args.value.shape c.requires.flavor_bound.0 c.requires.room c.scalar.ensures c.unwrap-grown.result c.unwrap-grown.ensures
 
+-- What is laid over the front of the base's array is the copy.
+based : (x base copy : List Float) → copy ≡ laid (take (length (take (length x) base)) x) (take (length x) base) → length x ≤ length base → copy ≡ x
+based x base copy e h = e ∙ lay_front x base h
+
 -- The copy is at the front of the base's array, which stays as long.
 base_long : (x base copy : List Float) → copy ≡ x → length x ≤ length base → length (copy ++ drop (length x) base) ≡ length base
 base_long x base copy e h = ap (λ (ys : List Float). length (ys ++ drop (length x) base)) e ∙ laid_length x base h
@@ -200,7 +204,7 @@ room e h q = rw (e, q) h
 
 -- After the test of a digit.
 digit : (c : Joined-p-eq1) → c.unwrap-grown.result ≡ grown c.args.value.shape
-    → Left c.args.value.shape c.args.power c.args.value.numbers.now c.scalar.new.out (c.copy_from_slice.new.self ++ drop (length c.args.value.numbers.now) c.args.base.now) (square_of c.args.value.shape) c.if-p-eq1.out c.loop-p.base (c.loop-p.p / 2)
+    → Left c.args.value.shape c.args.power c.args.value.numbers.now c.scalar.new.out (c.lay.new.out ++ drop (length c.args.value.numbers.now) c.args.base.now) (square_of c.args.value.shape) c.if-p-eq1.out c.loop-p.base (c.loop-p.p / 2)
 digit c g =
     let t = c.loop-p.invariant in
     elim c.if-p-eq1.branch [
@@ -220,7 +224,7 @@ loop-p-init c =
     let s = c.args.value.shape in
     let p = c.requires in
     let x = c.args.value.numbers.now in
-    let base_is = ap (λ (xs : List Float). xs ++ drop (length x) c.args.base.now) c.copy_from_slice.ensures.after in
+    let base_is = ap (λ (xs : List Float). xs ++ drop (length x) c.args.base.now) (based _ _ _ c.lay.ensures p.in_bounds.0) in
     begins s p.flavor_bound.0 c.args.power x c.args.out.now c.scalar.new.out (begun s p.flavor_bound.0 p.room c.scalar.ensures) c.args.base.now _ p.flavor_bound.1 c.args.value.counted base_is
 
 pub mul_front-requires-clause-in_order : goal.mul_front-requires-clause-in_order
@@ -241,7 +245,7 @@ mul_front-requires-clause-room c =
 pub invariant_of-mul_front : goal.invariant_of-mul_front
 invariant_of-mul_front c =
     let v = c.args.value in
-    let l = base_long v.numbers.now c.args.base.now c.copy_from_slice.new.self c.copy_from_slice.ensures.after c.requires.in_bounds.0 in
+    let l = base_long v.numbers.now c.args.base.now c.lay.new.out (based _ _ _ c.lay.ensures c.requires.in_bounds.0) c.requires.in_bounds.0 in
     let e : length v.numbers.now ≤ length c.loop-p.base = omega (arith, c.requires.in_bounds.0, c.loop-p.auto.base, l) in
     record { small = v.small; counted = length-take-le _ c.loop-p.base e ∙ v.counted }
 
@@ -249,7 +253,7 @@ pub square_front-requires-clause-dims_bound : goal.square_front-requires-clause-
 square_front-requires-clause-dims_bound c =
     let p = c.requires in
     let m = base_room c.args.value.shape.dims (grown c.args.value.shape).dims (omega arith) in
-    let l = base_long c.args.value.numbers.now c.args.base.now c.copy_from_slice.new.self c.copy_from_slice.ensures.after p.in_bounds.0 in
+    let l = base_long c.args.value.numbers.now c.args.base.now c.lay.new.out (based _ _ _ c.lay.ensures p.in_bounds.0) p.in_bounds.0 in
     (c.args.value.small, c.args.value.counted, omega (arith, p.in_bounds.0, c.loop-p.auto.base, l), omega (arith, m, c.args.value.counted, p.in_bounds.1, c.if-p-eq1.auto.next, c.loop-p.auto.next))
 
 pub loop-p-preserved-then-p-gt0 : goal.loop-p-preserved-then-p-gt0

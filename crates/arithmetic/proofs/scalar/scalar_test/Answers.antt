@@ -30,10 +30,8 @@ returns-then-is_scalar c =
     let a = c.args in
     answered_ok (λ (o : Tested). o.number) (λ o. o.test) refused_test _ _ _ refl c.in_ok-value_refusal.ensures.0 (sym (test_scalar a.shape a.a.now (sym c.is_scalar.ensures ∙ c.if-is_scalar.true)))
 
-pub invariant_of-test_other : goal.invariant_of-test_other
-invariant_of-test_other c =
-    let v = counts (goal.at.invariant_of-test_other c).In_ok-value_refusal in
-    record { small = v.small; counted = v.counted }
+pub test_other-requires : goal.test_other-requires
+test_other-requires c = ((counts (goal.at.test_other-requires c).In_ok-value_refusal).counted, sym c.is_scalar.ensures ∙ c.if-is_scalar.false)
 
 pub returns : goal.returns
 unfolding scalar_test

@@ -82,11 +82,9 @@ loop-g-preserved c =
     let s = step at.Joined-has (room at.At-loop-g c.size_of-count.result c.size_of-count.ensures (omega arith)) in
     record { passed = s.0; put = s.1; filled = s.2 }
 
-pub returns-after-has : goal.returns-after-has
+pub returns : goal.returns
 unfolding order
-returns-after-has c =
+returns c =
     let a = c.args in
-    let at = goal.at.returns-after-has c in
-    let s = step at.Joined-has (room at.At-loop-g c.size_of-count.result c.size_of-count.ensures (omega arith)) in
-    let e : c.loop-g.g + 1 ≡ suc a.value.dims = grind arith in
-    s.2 ∙ ap (λ (n : ℕ). laid (map (coef a.value.dims a.value.numbers.now) (choose (odd_of a.parity) (grades_below a.value.dims n))) a.out.now) e
+    let e : c.loop-g.g ≡ suc a.value.dims = grind arith in
+    c.loop-g.invariant.filled ∙ ap (λ (n : ℕ). laid (map (coef a.value.dims a.value.numbers.now) (choose (odd_of a.parity) (grades_below a.value.dims n))) a.out.now) e

@@ -7,6 +7,7 @@ use Rattle.std.proofs.lemmas.Result.{err_from_is_err_and}
 use Rattle.std.specs.Prelude.{Some}
 use Rattle.masks.specs.declared.outcome.Refusal.{Refusal}
 use Rattle.masks.specs.Outcome.{number_of, Outcome, value, refused_value, laid}
+use Rattle.masks.proofs.ListLaws.{lay_front}
 use Rattle.masks.proofs.OutcomeLaws.{unless_err, unless_ok}
 use Rattle.replay.specs.declared.log.Step.TheVariants.{Halt}
 use Rattle.replay.specs.Step.{is_equal, stepped, fires}
@@ -36,5 +37,5 @@ returns c k =
     let h = halt_done k (value a.shape a.a.now) (value a.other a.b.now) e.0 in
     record {
       answered = record { done = ap (λ (o : Outcome). o.number) h; shape = ap (λ (o : Outcome). o.shape) (sym h); halts = e.1 };
-      left = ap (λ (xs : List Float). xs ++ drop (length a.a.now) a.out.now) c.copy_from_slice.ensures.after ∙ ap (λ (o : Outcome). laid o.coefs a.out.now) (sym h);
+      left = ap (λ (xs : List Float). xs ++ drop (length a.a.now) a.out.now) (c.lay.ensures ∙ lay_front a.a.now a.out.now c.requires) ∙ ap (λ (o : Outcome). laid o.coefs a.out.now) (sym h);
     }

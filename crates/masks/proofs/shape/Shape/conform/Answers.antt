@@ -62,14 +62,14 @@ returns-in_err-conform_refusal c =
     let f = c.in_err-conform_refusal in
     rw (p.1, p.2) (gives_both_refused _ f.field-0.0 _ _ _ (number (goal.at.returns-in_err-conform_refusal c).After-conform_refusal ∙ f.ensures))
 
-pub invariant_of-conform_by : goal.invariant_of-conform_by
-invariant_of-conform_by c =
-    let t = ok (goal.at.invariant_of-conform_by c).After-conform_refusal c.in_ok-conform_refusal.ensures.0 in
+pub invariant_of-conform_one : goal.invariant_of-conform_one
+invariant_of-conform_one c =
+    let t = ok (goal.at.invariant_of-conform_one c).After-conform_refusal c.in_ok-conform_refusal.ensures.0 in
     record { small = t.small; counted = t.counted }
 
-pub conform_by-requires : goal.conform_by-requires
-conform_by-requires c =
-    let r = (goal.at.conform_by-requires c).After-conform_refusal in
+pub conform_one-requires : goal.conform_one-requires
+conform_one-requires c =
+    let r = (goal.at.conform_one-requires c).After-conform_refusal in
     let t = ok r c.in_ok-conform_refusal.ensures.0 in
     (few r, omega (arith, c.max-n.ensures, grown r t.small, t.result), t.result, t.roomy)
 
@@ -78,9 +78,9 @@ invariant_of-value_right c =
     let t = ok (goal.at.invariant_of-value_right c).After-conform_refusal c.in_ok-conform_refusal.ensures.0 in
     record { small = t.small_right; counted = t.counted_right }
 
-pub conform_by-requires-2 : goal.conform_by-requires-2
-conform_by-requires-2 c =
-    let r = (goal.at.conform_by-requires-2 c).After-conform_refusal in
+pub conform_one-requires-2 : goal.conform_one-requires-2
+conform_one-requires-2 c =
+    let r = (goal.at.conform_one-requires-2 c).After-conform_refusal in
     let t = ok r c.in_ok-conform_refusal.ensures.0 in
     (few_right r, omega (arith, c.max-n.ensures, grown_right r t.small_right, t.result), t.result, t.roomy_right)
 
@@ -96,5 +96,5 @@ returns c =
     gives_both_done _ _ _ _ _ _ _ _ (number r ∙ z) refl
     (c.conformed-left.ensures ∙ ap₂ (λ u n. conformed_shape u a.self n) e n)
     (c.conformed-right.ensures ∙ ap₂ (λ u n. conformed_shape u a.other n) f n)
-    (c.conform_by.ensures ∙ ap₂ (λ u n. laid (conformed u (own r) n a.a.now) a.out.now) e n)
-    (c.conform_by-2.ensures ∙ ap₂ (λ u n. laid (conformed u (theirs r) n a.b.now) a.out_right.now) f n)
+    (c.conform_one.ensures ∙ ap₂ (λ u n. laid (conformed u (own r) n a.a.now) a.out.now) e n)
+    (c.conform_one-2.ensures ∙ ap₂ (λ u n. laid (conformed u (theirs r) n a.b.now) a.out_right.now) f n)

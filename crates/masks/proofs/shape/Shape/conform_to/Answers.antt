@@ -45,14 +45,14 @@ returns-in_err-refusal_of c =
     let f = c.in_err-refusal_of in
     rw (p.1, p.2) (gives_refused _ f.field-0.0 _ _ (number (goal.at.returns-in_err-refusal_of c).After-refusal_of ∙ f.ensures))
 
-pub invariant_of-conform_by : goal.invariant_of-conform_by
-invariant_of-conform_by c =
-    let t = ok (goal.at.invariant_of-conform_by c).After-refusal_of c.in_ok-refusal_of.ensures.0 in
+pub invariant_of-conform_one : goal.invariant_of-conform_one
+invariant_of-conform_one c =
+    let t = ok (goal.at.invariant_of-conform_one c).After-refusal_of c.in_ok-refusal_of.ensures.0 in
     record { small = t.small; counted = t.counted }
 
-pub conform_by-requires : goal.conform_by-requires
-conform_by-requires c =
-    let r = (goal.at.conform_by-requires c).After-refusal_of in
+pub conform_one-requires : goal.conform_one-requires
+conform_one-requires c =
+    let r = (goal.at.conform_one-requires c).After-refusal_of in
     let t = ok r c.in_ok-refusal_of.ensures.0 in
     (few r, omega (arith, t.result, c.max-n.ensures, grown r t.small), t.result, t.roomy)
 
@@ -65,4 +65,4 @@ returns c =
     let e = c.promotion-up.ensures in
     let n = same r (ok r z).small in
     gives_ok _ _ _ _ _ (number r ∙ z) refl (c.conformed.ensures ∙ ap₂ (λ u n. conformed_shape u a.self n) e n)
-    (c.conform_by.ensures ∙ ap₂ (λ u n. laid (conformed u a.self.dims n a.a.now) a.out.now) e n)
+    (c.conform_one.ensures ∙ ap₂ (λ u n. laid (conformed u a.self.dims n a.a.now) a.out.now) e n)

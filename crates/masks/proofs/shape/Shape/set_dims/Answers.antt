@@ -27,19 +27,19 @@ returns-in_err-refusal_of c =
     let f = c.in_err-refusal_of in
     rw (p.1, p.2) (gives_refused _ f.field-0.0 _ _ (number (goal.at.returns-in_err-refusal_of c).After-refusal_of ∙ f.ensures))
 
-pub invariant_of-conform_by : goal.invariant_of-conform_by
-invariant_of-conform_by c =
-    let t = ok (goal.at.invariant_of-conform_by c).After-refusal_of c.in_ok-refusal_of.ensures.0 in
+pub invariant_of-conform_one : goal.invariant_of-conform_one
+invariant_of-conform_one c =
+    let t = ok (goal.at.invariant_of-conform_one c).After-refusal_of c.in_ok-refusal_of.ensures.0 in
     record { small = t.small; counted = t.counted }
 
-pub conform_by-requires : goal.conform_by-requires
-conform_by-requires c =
-    let t = ok (goal.at.conform_by-requires c).After-refusal_of c.in_ok-refusal_of.ensures.0 in
+pub conform_one-requires : goal.conform_one-requires
+conform_one-requires c =
+    let t = ok (goal.at.conform_one-requires c).After-refusal_of c.in_ok-refusal_of.ensures.0 in
     (omega arith, omega (arith, t.small), t.result, t.roomy)
 
 pub returns : goal.returns
 unfolding set_dims
 returns c =
     let a = c.args in
-    gives_ok _ _ _ _ _ (number (goal.at.returns c).After-refusal_of ∙ c.in_ok-refusal_of.ensures.0) refl c.with_dims.ensures (c.conform_by.ensures
+    gives_ok _ _ _ _ _ (number (goal.at.returns c).After-refusal_of ∙ c.in_ok-refusal_of.ensures.0) refl c.with_dims.ensures (c.conform_one.ensures
     ∙ ap (λ xs. laid xs a.out.now) (sym (conformed_none 0 a.self.dims a.new_dims a.a.now refl)))
