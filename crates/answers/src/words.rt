@@ -1,8 +1,10 @@
 // Hexadecimal words of a line, and what they say: numbers by their patterns, patterns and bytes.
-ghost use Rattle.std.specs.Prelude.{◌≤◌};
+ghost use Rattle.std.specs.Prelude.{◌<◌, ◌≤◌, IfSome};
 
 // A hexadecimal digit's value.
-fn digit(c: u8) -> Option<u64> {
+fn digit(c: u8) -> Option<u64>
+    ensures { IfSome result (λ d. d < 16) }
+{
     match c {
         b'0'..=b'9' => Some((c - b'0') as u64),
         b'a'..=b'f' => Some((c - b'a' + 10) as u64),
