@@ -31,10 +31,14 @@ pub fn constants(table: &Table, tree: &Tree) -> Vec<String> {
             continue;
         };
         for (variant, value) in variants(text) {
-            match table.refusals.iter().find(|refusal| refusal.variant == variant) {
-                None => faults.push(format!("{variant} of {path} is not in calls.txt")),
+            let name = c_name(variant);
+            match table.refusals.iter().find(|refusal| refusal.name == name) {
+                None => faults.push(format!("{name}, {variant} of {path}, is not in calls.txt")),
                 Some(refusal) if u64::from(refusal.number) != value => {
-                    faults.push(format!("{} is {} in calls.txt and {value} in {path}", refusal.name, refusal.number));
+                    faults.push(format!("{name} is {} in calls.txt and {value} in {path}", refusal.number));
+                }
+                Some(refusal) if refusal.variant != variant => {
+                    faults.push(format!("{name} is {} in calls.txt and {variant} in {path}", refusal.variant));
                 }
                 Some(refusal) => found.push(refusal.name.as_str()),
             }
@@ -76,6 +80,18 @@ fn variants(text: &str) -> Vec<(&str, u64)> {
         Some((name, value.parse().ok()?))
     });
     lines.collect()
+}
+
+/// The name in C of a refusal of the crates: capital letters, with a line between its words.
+fn c_name(variant: &str) -> String {
+    let mut name = String::new();
+    for letter in variant.chars() {
+        if letter.is_ascii_uppercase() && !name.is_empty() {
+            name.push('_');
+        }
+        name.push(letter.to_ascii_uppercase());
+    }
+    name
 }
 
 /// The kinds of flavor, which are written where a shape becomes six bytes.

@@ -14,7 +14,7 @@ struct Wrong {
 }
 
 /// Wrong tables: what is written from them is written anew, so that only the sources can contradict them.
-const TABLES: [Wrong; 14] = [
+const TABLES: [Wrong; 15] = [
     wrong("parameters exchanged", "call mul(left, right, a, b,", "call mul(right, left, a, b,", "mul:"),
     wrong("a parameter renamed", "exponent", "power", "powi:"),
     wrong("a parameter of another type", "exponent: i32", "exponent: u32", "powi:"),
@@ -32,7 +32,8 @@ const TABLES: [Wrong; 14] = [
     wrong("a constant missing", "constant MAX_DIMS 9", "constant MOST_DIMS 9", "MAX_DIMS"),
     wrong("a kind of another value", "PROJECTIVE 1", "PROJECTIVE 3", "PROJECTIVE is 3"),
     wrong("another version", "version 0.2.0", "version 0.2.1", "the version"),
-    wrong("another name of a refusal", "8 NO_SPEC, NoSpec:", "8 NO_SPEC, NoSpecs:", "NoSpec"),
+    wrong("another name of a refusal", "8 NO_SPEC,", "8 NO_SPECS,", "NO_SPEC"),
+    wrong("another name of a refusal in Rust", "8 NO_SPEC, NoSpec:", "8 NO_SPEC, NoSpecs:", "NoSpec"),
     wrong("another sentence of a refusal", "or it is damaged", "or it is broken", "refusal 9"),
 ];
 
