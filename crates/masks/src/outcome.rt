@@ -35,7 +35,7 @@ impl Refusal {
     }
 }
 
-// Items from the front of an output, as far as it has room. One by one: `copy_from_slice` wants memmove from outside the archive.
+// Items from the front of an output, as far as it has room. One by one: `copy_from_slice` can come out as memmove, from outside the archive.
 pub fn lay<T: Copy>(items: &[T], out: &mut [T])
     ensures { out.new ≡ laid (take (length out.old) items.now) out.old }
 {
