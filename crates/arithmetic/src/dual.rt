@@ -16,13 +16,14 @@ use masks::shape::Shape;
 use product::mode::Mode;
 use product::products::multiply;
 
-// The dual, at the front of the output. The array for the unit holds N numbers.
-fn put_dual_in<const N: usize>(given: &[u16], value: Value, out: &mut [f64])
-    requires in_order { InOrder given.now value.shape.dims }
-    requires room { (length value.numbers.now ≤ N) × (2 ^ value.shape.dims ≤ length out.old) × (N ≤ 512) }
-    ensures { out.new ≡ laid (dual_of value.entry.shape.dims value.entry.numbers.now) out.old }
+// The dual, at the front of the output. The array for the unit holds N numbers. Values go by reference, here and below: by value they would be copied at
+// each call that hands them on.
+fn put_dual_in<const N: usize>(given: &[u16], value: &Value, out: &mut [f64])
+    requires in_order { InOrder given.now value.now.shape.dims }
+    requires room { (length value.now.numbers.now ≤ N) × (2 ^ value.now.shape.dims ≤ length out.old) × (N ≤ 512) }
+    ensures { out.new ≡ laid (dual_of value.now.shape.dims value.now.numbers.now) out.old }
 {
-    let Value { shape, numbers: a } = value;
+    let Value { shape, numbers: a } = *value;
     let vanilla = shape.with_flavor(Flavor::Vanilla);
     let mut unit = [0.0; N];
     let _ = pseudoscalar(shape.dims, 1.0, Flavor::Vanilla, &mut unit);
@@ -30,12 +31,14 @@ fn put_dual_in<const N: usize>(given: &[u16], value: Value, out: &mut [f64])
 }
 
 // The same, in an array as long as the dimensions want.
-fn put_dual(given: &[u16], value: Value, out: &mut [f64])
-    requires in_order { InOrder given.now value.shape.dims }
-    requires room { 2 ^ value.shape.dims ≤ length out.old }
-    ensures { out.new ≡ laid (dual_of value.entry.shape.dims value.entry.numbers.now) out.old }
+fn put_dual(given: &[u16], value: &Value, out: &mut [f64])
+    requires in_order { InOrder given.now value.now.shape.dims }
+    requires room { 2 ^ value.now.shape.dims ≤ length out.old }
+    ensures { out.new ≡ laid (dual_of value.now.shape.dims value.now.numbers.now) out.old }
 {
-    if value.numbers.len() <= 64 {
+    if value.numbers.len() <= 16 {
+        put_dual_in::<16>(given, value, out);
+    } else if value.numbers.len() <= 64 {
         put_dual_in::<64>(given, value, out);
     } else {
         put_dual_in::<512>(given, value, out);
@@ -43,12 +46,12 @@ fn put_dual(given: &[u16], value: Value, out: &mut [f64])
 }
 
 // The antidual, at the front of the output. The array for the unit holds N numbers.
-fn put_antidual_in<const N: usize>(given: &[u16], value: Value, out: &mut [f64])
-    requires in_order { InOrder given.now value.shape.dims }
-    requires room { (length value.numbers.now ≤ N) × (2 ^ value.shape.dims ≤ length out.old) × (N ≤ 512) }
-    ensures { out.new ≡ laid (antidual_of value.entry.shape.dims value.entry.numbers.now) out.old }
+fn put_antidual_in<const N: usize>(given: &[u16], value: &Value, out: &mut [f64])
+    requires in_order { InOrder given.now value.now.shape.dims }
+    requires room { (length value.now.numbers.now ≤ N) × (2 ^ value.now.shape.dims ≤ length out.old) × (N ≤ 512) }
+    ensures { out.new ≡ laid (antidual_of value.now.shape.dims value.now.numbers.now) out.old }
 {
-    let Value { shape, numbers: a } = value;
+    let Value { shape, numbers: a } = *value;
     let vanilla = shape.with_flavor(Flavor::Vanilla);
     let mut unit = [0.0; N];
     let _ = pseudoscalar(shape.dims, 1.0, Flavor::Vanilla, &mut unit);
@@ -56,12 +59,14 @@ fn put_antidual_in<const N: usize>(given: &[u16], value: Value, out: &mut [f64])
 }
 
 // The same, in an array as long as the dimensions want.
-fn put_antidual(given: &[u16], value: Value, out: &mut [f64])
-    requires in_order { InOrder given.now value.shape.dims }
-    requires room { 2 ^ value.shape.dims ≤ length out.old }
-    ensures { out.new ≡ laid (antidual_of value.entry.shape.dims value.entry.numbers.now) out.old }
+fn put_antidual(given: &[u16], value: &Value, out: &mut [f64])
+    requires in_order { InOrder given.now value.now.shape.dims }
+    requires room { 2 ^ value.now.shape.dims ≤ length out.old }
+    ensures { out.new ≡ laid (antidual_of value.now.shape.dims value.now.numbers.now) out.old }
 {
-    if value.numbers.len() <= 64 {
+    if value.numbers.len() <= 16 {
+        put_antidual_in::<16>(given, value, out);
+    } else if value.numbers.len() <= 64 {
         put_antidual_in::<64>(given, value, out);
     } else {
         put_antidual_in::<512>(given, value, out);
@@ -73,7 +78,7 @@ pub fn dual(shape: Shape, a: &[f64], out: &mut [f64]) -> Result<Shape, Refusal>
     ensures { Gives (dual shape a.now (length out.old)) result out.old out.new }
 {
     kept_refusal(shape, a, out.len())?;
-    put_dual(&[], Value { shape, numbers: a }, out);
+    put_dual(&[], &Value { shape, numbers: a }, out);
     Ok(shape)
 }
 
@@ -82,7 +87,7 @@ pub fn antidual(shape: Shape, a: &[f64], out: &mut [f64]) -> Result<Shape, Refus
     ensures { Gives (antidual shape a.now (length out.old)) result out.old out.new }
 {
     kept_refusal(shape, a, out.len())?;
-    put_antidual(&[], Value { shape, numbers: a }, out);
+    put_antidual(&[], &Value { shape, numbers: a }, out);
     Ok(shape)
 }
 
@@ -92,14 +97,14 @@ fn regressive_in<const N: usize, const M: usize>(
     own: &[u16],
     theirs: &[u16],
     joined: &[u16],
-    left: Value,
-    right: Value,
+    left: &Value,
+    right: &Value,
     out: &mut [f64],
 ) -> Result<Shape, Refusal>
-    requires in_order { InOrder own.now left.shape.dims × InOrder theirs.now right.shape.dims × InOrder joined.now (meeting_dims left.shape right.shape) }
-    requires meeting { (meeting_dims left.shape right.shape ≤ 9) × (2 ^ meeting_dims left.shape right.shape ≤ length out.old) }
-    requires room { (length left.numbers.now ≤ N) × (length right.numbers.now ≤ N) × (2 ^ meeting_dims left.shape right.shape ≤ M) × (N ≤ 512) × (M ≤ 512) }
-    ensures { Gives (regressive_product left.entry.shape right.entry.shape left.entry.numbers.now right.entry.numbers.now (length out.old)) result out.old out.new }
+    requires in_order { InOrder own.now left.now.shape.dims × InOrder theirs.now right.now.shape.dims × InOrder joined.now (meeting_dims left.now.shape right.now.shape) }
+    requires meeting { (meeting_dims left.now.shape right.now.shape ≤ 9) × (2 ^ meeting_dims left.now.shape right.now.shape ≤ length out.old) }
+    requires room { (length left.now.numbers.now ≤ N) × (length right.now.numbers.now ≤ N) × (2 ^ meeting_dims left.now.shape right.now.shape ≤ M) × (N ≤ 512) × (M ≤ 512) }
+    ensures { Gives (regressive_product left.now.shape right.now.shape left.now.numbers.now right.now.numbers.now (length out.old)) result out.old out.new }
 {
     let mut x = [0.0; N];
     let mut y = [0.0; N];
@@ -117,7 +122,7 @@ fn regressive_in<const N: usize, const M: usize>(
     )?;
     let shape = p.shape;
     let numbers = &z[..blades_or_none(shape.dims)];
-    put_antidual(joined, Value { shape, numbers }, out);
+    put_antidual(joined, &Value { shape, numbers }, out);
     Ok(shape)
 }
 
@@ -126,14 +131,17 @@ fn regressive_by(
     own: &[u16],
     theirs: &[u16],
     joined: &[u16],
-    left: Value,
-    right: Value,
+    left: &Value,
+    right: &Value,
     out: &mut [f64],
 ) -> Result<Shape, Refusal>
-    requires in_order { InOrder own.now left.shape.dims × InOrder theirs.now right.shape.dims × InOrder joined.now (meeting_dims left.shape right.shape) }
-    requires meeting { (meeting_dims left.shape right.shape ≤ 9) × (2 ^ meeting_dims left.shape right.shape ≤ length out.old) }
-    ensures { Gives (regressive_product left.entry.shape right.entry.shape left.entry.numbers.now right.entry.numbers.now (length out.old)) result out.old out.new }
+    requires in_order { InOrder own.now left.now.shape.dims × InOrder theirs.now right.now.shape.dims × InOrder joined.now (meeting_dims left.now.shape right.now.shape) }
+    requires meeting { (meeting_dims left.now.shape right.now.shape ≤ 9) × (2 ^ meeting_dims left.now.shape right.now.shape ≤ length out.old) }
+    ensures { Gives (regressive_product left.now.shape right.now.shape left.now.numbers.now right.now.numbers.now (length out.old)) result out.old out.new }
 {
+    if left.shape.dims < 4 && right.shape.dims < 4 {
+        return regressive_in::<8, 16>(own, theirs, joined, left, right, out);
+    }
     if left.shape.dims < 6 && right.shape.dims < 6 {
         return regressive_in::<32, 64>(own, theirs, joined, left, right, out);
     }
@@ -144,13 +152,13 @@ fn regressive_by(
 fn regressive_joined(
     own: &[u16],
     theirs: &[u16],
-    left: Value,
-    right: Value,
+    left: &Value,
+    right: &Value,
     out: &mut [f64],
 ) -> Result<Shape, Refusal>
-    requires in_order { InOrder own.now left.shape.dims × InOrder theirs.now right.shape.dims }
-    requires meeting { (meeting_dims left.shape right.shape ≤ 9) × (2 ^ meeting_dims left.shape right.shape ≤ length out.old) }
-    ensures { Gives (regressive_product left.entry.shape right.entry.shape left.entry.numbers.now right.entry.numbers.now (length out.old)) result out.old out.new }
+    requires in_order { InOrder own.now left.now.shape.dims × InOrder theirs.now right.now.shape.dims }
+    requires meeting { (meeting_dims left.now.shape right.now.shape ≤ 9) × (2 ^ meeting_dims left.now.shape right.now.shape ≤ length out.old) }
+    ensures { Gives (regressive_product left.now.shape right.now.shape left.now.numbers.now right.now.numbers.now (length out.old)) result out.old out.new }
 {
     let n = joined_dims(left.shape, right.shape, true);
     if n == left.shape.dims {
@@ -164,19 +172,35 @@ fn regressive_joined(
     regressive_by(own, theirs, &order, left, right, out)
 }
 
-// The same, with the orders of both values' dimensions, one where they are the same. Each is built here, once.
-fn put_regressive(left: Value, right: Value, out: &mut [f64]) -> Result<Shape, Refusal>
-    requires meeting { (meeting_dims left.shape right.shape ≤ 9) × (2 ^ meeting_dims left.shape right.shape ≤ length out.old) }
-    ensures { Gives (regressive_product left.entry.shape right.entry.shape left.entry.numbers.now right.entry.numbers.now (length out.old)) result out.old out.new }
+// The same, with the orders of both values' dimensions, one where they are the same. Each is built here, once, in an array of N masks.
+fn regressive_ordered<const N: usize>(
+    left: &Value,
+    right: &Value,
+    out: &mut [f64],
+) -> Result<Shape, Refusal>
+    requires meeting { (meeting_dims left.now.shape right.now.shape ≤ 9) × (2 ^ meeting_dims left.now.shape right.now.shape ≤ length out.old) }
+    requires room { (length left.now.numbers.now ≤ N) × (length right.now.numbers.now ≤ N) × (N ≤ 512) }
+    ensures { Gives (regressive_product left.now.shape right.now.shape left.now.numbers.now right.now.numbers.now (length out.old)) result out.old out.new }
 {
-    let mut own = [0; 512];
+    let mut own = [0; N];
     put_order(left.shape.dims, &mut own).unwrap();
     if left.shape.dims == right.shape.dims {
         return regressive_joined(&own, &own, left, right, out);
     }
-    let mut theirs = [0; 512];
+    let mut theirs = [0; N];
     put_order(right.shape.dims, &mut theirs).unwrap();
     regressive_joined(&own, &theirs, left, right, out)
+}
+
+// The same, in arrays as long as the dimensions want.
+fn put_regressive(left: &Value, right: &Value, out: &mut [f64]) -> Result<Shape, Refusal>
+    requires meeting { (meeting_dims left.now.shape right.now.shape ≤ 9) × (2 ^ meeting_dims left.now.shape right.now.shape ≤ length out.old) }
+    ensures { Gives (regressive_product left.now.shape right.now.shape left.now.numbers.now right.now.numbers.now (length out.old)) result out.old out.new }
+{
+    if left.numbers.len() <= 16 && right.numbers.len() <= 16 {
+        return regressive_ordered::<16>(left, right, out);
+    }
+    regressive_ordered::<512>(left, right, out)
 }
 
 // The regressive product.
@@ -198,5 +222,5 @@ pub fn regressive_product(
         shape: right,
         numbers: b,
     };
-    put_regressive(value, value_right, out)
+    put_regressive(&value, &value_right, out)
 }

@@ -203,7 +203,8 @@ fn fill_by(plan: Plan, a: &[f64], b: &[f64], am: &mut [f64], acc: &mut [f64], ou
     take_back(plan, acc, out);
 }
 
-// The same, by sums in arrays of N numbers.
+// The same, by sums in arrays of N numbers. In line, as the next: else the plan is copied at each call.
+#[inline(always)]
 fn fill_in<const N: usize>(plan: Plan, a: &[f64], b: &[f64], out: &mut [f64])
     requires a_len { (length a.now ≡ 2 ^ plan.shape.dims) × (length b.now ≡ 2 ^ plan.shape.dims) × (2 ^ plan.shape.dims ≤ length out.old) }
     requires room { (2 ^ plan.shape.dims ≤ N) × (N ≤ 512) }
@@ -216,6 +217,7 @@ fn fill_in<const N: usize>(plan: Plan, a: &[f64], b: &[f64], out: &mut [f64])
 }
 
 // The same, in arrays as long as the dimensions want: what they are cleared for counts where there are few numbers.
+#[inline(always)]
 pub(crate) fn fill_given(plan: Plan, a: &[f64], b: &[f64], out: &mut [f64])
     requires { (length a.now ≡ 2 ^ plan.shape.dims) × (length b.now ≡ 2 ^ plan.shape.dims) × (2 ^ plan.shape.dims ≤ length out.old) }
     ensures { out.new ≡ laid (planned plan.entry a.now b.now) out.old }

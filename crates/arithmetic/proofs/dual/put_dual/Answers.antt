@@ -3,4 +3,4 @@ use Rattle.masks.proofs.OrderLaws.{blades_le}
 use Rattle.arithmetic.proofs.dual.put_dual.Goals as goal
 
 pub put_dual_in-requires-else-value-le64-clause-room : goal.put_dual_in-requires-else-value-le64-clause-room
-put_dual_in-requires-else-value-le64-clause-room c = let v = c.args.value in (omega (arith, v.counted, blades_le _ v.small), c.requires.room, omega arith)
+put_dual_in-requires-else-value-le64-clause-room c = let v = c.args.value.now in (omega (arith, v.counted, blades_le _ v.small), c.requires.room, omega arith)

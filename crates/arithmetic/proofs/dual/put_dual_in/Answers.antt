@@ -7,6 +7,6 @@ pub returns : goal.returns
 unfolding of_bits of_fields
 returns g c =
     let a = c.args in
-    let v = a.value in
+    let v = a.value.now in
     let r = c.requires.room in
     dual_laid v.shape.dims v.numbers.now v.small v.counted c.with_flavor-vanilla.result c.with_flavor-vanilla.ensures c.pseudoscalar.result _ _ (array_room _ r.0) c.pseudoscalar.ensures a.out.now _ r.1 a.given.now c.requires.in_order c.multiply.result c.multiply.ensures

@@ -10,8 +10,8 @@ use Rattle.arithmetic.proofs.dual.regressive_joined.Goals as goal
 
 -- The dimensions that are found are those that the values meet in.
 module _ (b : After-joined_dims-n) where
-  meets : b.joined_dims-n.result ≡ meeting_dims b.args.left.shape b.args.right.shape
-  meets = b.joined_dims-n.ensures b.args.left.small b.args.right.small
+  meets : b.joined_dims-n.result ≡ meeting_dims b.args.left.now.shape b.args.right.now.shape
+  meets = b.joined_dims-n.ensures b.args.left.now.small b.args.right.now.small
 
   small : b.joined_dims-n.result ≤ 9
   small = omega (arith, meets, b.requires.meeting.0)
