@@ -1,6 +1,5 @@
-use mathlib.Core.Path.{◌≡◌, sym, subst}
+use mathlib.Core.Path.{◌≡◌, subst}
 use Prim.Native.Nat.{ℕ, ◌^◌, ◌≤◌}
-use native.Mathlib.Omega.{arith}
 use lib.ListN.{length, replicate}
 use Rattle.arithmetic.specs.inner.Given.{InOrder}
 use Rattle.arithmetic.proofs.OrderPassed.{array_room, order_put, passed_put}
